@@ -1,0 +1,91 @@
+-- What is known of a head that was accepted. Assumes nothing.
+use mathlib.Core.Path.{_≡_, refl, sym, ap, subst, _∙_}
+use mathlib.Core.Bool.{Bool, true, false, cond, not}
+use mathlib.Core.List.{List, _++_, map}
+use Prim.Native.Nat.{ℕ, _≤_, _<_}
+use native.Mathlib.Omega.{arith}
+use lib.Dec.{ltb, leb}
+use lib.ListN.{length, drop}
+use Rattle.std.specs.Iters.{counting}
+use Rattle.std.proofs.shelf.Counted.{length-counting}
+use Rattle.std.proofs.shelf.Sums.{leading-le-length}
+use Rattle.std.proofs.shelf.Tests.{ltb-false, leb-true, and-parts, not-false}
+use Rattle.std.specs.declared.option.Option.{Option}
+use Rattle.std.specs.declared.option.Option.the-variants.{Some, None}
+use Rattle.std.specs.declared.result.Result.{Result}
+use Rattle.std.specs.declared.result.Result.the-variants.{Ok, Err}
+use Rattle.members.specs.Limits.{most-members, ages, fair-count}
+use Rattle.members.specs.Heads.{announced, head-length, table-of, first-bad, bad-weight, bad-age, bad-stake, Known, body-of, head-of, lacking, unless-lacking, answer, seated, member-at, members-of}
+use Rattle.members.specs.declared.head.Head.{Head}
+use Rattle.members.specs.declared.head.Room.{Room}
+use Rattle.members.specs.declared.member.Member.{Member}
+use Rattle.members.specs.declared.refusal.Refusal.{Refusal}
+use Rattle.members.proofs.Checks.{passes}
+
+-- a check that was passed
+past : {A E : Type 0} (b : Bool) (e : E) (r : Result A E) (x : A) → cond b (Err e) r ≡ Ok x → (b ≡ false) × (r ≡ Ok x)
+past true e r x h = let z : _≡_ {A = ℕ} 0 1 = cc in absurd (omega arith)
+past false e r x h = (refl, h)
+
+ok-same : {A E : Type 0} (x y : A) → _≡_ {A = Result A E} (Ok y) (Ok x) → y ≡ x
+ok-same x y e = cc
+
+none-bad : (good : ℕ → Bool) (n : ℕ) → ltb (first-bad good n) n ≡ false → first-bad good n ≡ n
+unfolding first-bad
+none-bad good n h = omega (arith, ltb-false _ n h, leading-le-length good (counting 0 n), length-counting 0 n)
+
+pub record Accepted (bs : List ℕ) (h : Head) : Type 0 where
+  pub is : h ≡ record { count = announced bs; table = table-of bs }
+  pub some : 1 ≤ announced bs
+  pub few : announced bs ≤ most-members
+  pub long : head-length (announced bs) ≤ length bs
+  pub weights : bad-weight bs ≡ ages
+  pub aged : bad-age bs (announced bs) ≡ announced bs
+  pub staked : bad-stake bs (announced bs) ≡ announced bs
+
+pub accepted : (bs : List ℕ) (h : Head) → head-of bs ≡ Ok h → Accepted bs h
+accepted bs h e =
+    let n = announced bs in
+    let a = past _ _ _ h e in
+    let b = past _ _ _ h (a .1) in
+    let c = past _ _ _ h (b .1) in
+    let d = past _ _ _ h (c .1) in
+    let f = past _ _ _ h (d .1) in
+    let fair = and-parts (leb 1 n) (leb n most-members) (not-false _ (a .0)) in
+    record {
+      is = ok-same _ h (sym (f .1));
+      some = leb-true 1 n (fair .0);
+      few = leb-true n most-members (fair .1);
+      long = ltb-false (length bs) (head-length n) (b .0);
+      weights = none-bad _ ages (c .0);
+      aged = none-bad _ n (d .0);
+      staked = none-bad _ n (f .0);
+    }
+
+-- so its members can be seated
+pub known : (bs : List ℕ) (h : Head) → Accepted bs h → Known bs (h .table) (h .count)
+known bs h a =
+    let count = ap (λ x. x .count) (a .is) in
+    record {
+      few = omega (arith, a .few);
+      long = omega (arith, a .long);
+      table = ap (λ x. x .table) (a .is);
+      aged = λ i l. passes _ _ (a .aged) i (omega arith);
+      staked = λ i l. passes _ _ (a .staked) i (omega arith);
+    }
+
+-- a memory that is long enough
+enough : {A : Type 0} (b : Bool) (x : A) (r : Option A) → cond b (Some x) r ≡ None → (b ≡ false) × (r ≡ None)
+enough true x r h = let z : _≡_ {A = ℕ} 0 1 = cc in absurd (omega arith)
+enough false x r h = (refl, h)
+
+module _ (places : ℕ) (room : Room) (bs : List ℕ) (full : lacking places room bs ≡ None) where
+  pub roomy : announced bs ≤ places
+  roomy = ltb-false places (announced bs) (enough _ _ _ full .0)
+
+  pub answered : (h : Head) → head-of bs ≡ Ok h → Ok h ≡ answer places room bs
+  answered h e = sym (ap (λ o. unless-lacking o (head-of bs)) full ∙ e)
+
+  pub taken : (h : Head) (was after : List Member) → head-of bs ≡ Ok h → after ≡ map (member-at bs) (counting 0 (h .count)) ++ drop (h .count) was → after ≡ seated (answer places room bs) bs was
+  unfolding members-of
+  taken h was after e s = s ∙ ap (λ n. map (member-at bs) (counting 0 n) ++ drop (h .count) was) (ap (λ x. x .count) (accepted bs h e .is)) ∙ ap (λ r. seated r bs was) (answered h e)

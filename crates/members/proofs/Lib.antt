@@ -1,0 +1,6 @@
+pub mod Checks
+pub mod Heads
+pub mod Lines
+pub mod Places
+pub mod Same
+pub mod Tables

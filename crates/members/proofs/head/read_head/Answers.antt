@@ -1,0 +1,15 @@
+use mathlib.Core.Path.{_≡_, sym, ap}
+use native.Mathlib.Omega.{arith}
+use Rattle.members.proofs.Heads.{accepted, known, roomy, answered, taken}
+use Rattle.members.proofs.head.read_head.Needs as need
+
+pub seat-requires : need.seat-requires
+seat-requires c κs =
+    let a = accepted (c .args .book .now) _ (sym (c .in-Continue-head .ensures tt)) in
+    record { known = known (c .args .book .now) _ a; room = omega (arith, ap (λ h. h .count) (a .is), roomy _ _ (c .args .book .now) (sym (c .in-rest .ensures tt))) }
+
+pub returns : need.returns
+returns c =
+    let full = sym (c .in-rest .ensures tt) in
+    let head = sym (c .in-Continue-head .ensures tt) in
+    record { value = answered _ _ (c .args .book .now) full _ head; members = taken _ _ (c .args .book .now) full _ _ _ head (c .seat .ensures) }

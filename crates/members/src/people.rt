@@ -1,0 +1,87 @@
+// How members are made, and what one stands to lose.
+ghost use mathlib.Core.Path.{_≡_};
+ghost use mathlib.Core.Bool.{cond, _&&_};
+ghost use Prim.Native.Nat.{_*_, _<_, _^_};
+ghost use Rattle.std.specs.declared.option.Option.the-variants.{Some, None};
+ghost use Rattle.members.specs.Limits.{Weight, Stake, fair-weight, fair-stake, fair-age};
+ghost use Rattle.members.specs.Members.{newcomer, nobody};
+use crate::limits::FIRST_AGE;
+use crate::limits::LAST_AGE;
+use crate::limits::MOST_STAKE;
+use crate::limits::MOST_WEIGHT;
+use crate::member::Member;
+
+impl Member {
+    // What stands in a place of lent memory that no member has taken.
+    pub fn nobody() -> Member
+        ensures { λ r. ⌜ r ≡ nobody ⌝ }
+    {
+        Member {
+            number: 0,
+            age: 0,
+            weight: 1,
+            stake: 1,
+            paid: 0,
+            alive: false,
+        }
+    }
+
+    // A living member that was paid nothing yet, or none where its weight or its stake is out of bounds.
+    pub fn new(number: u8, age: u8, weight: u32, stake: u64) -> Option<Member>
+        ensures { λ r. ⌜ r ≡ cond (fair-weight weight && fair-stake stake) (Some (newcomer number age weight stake)) None ⌝ }
+    {
+        let weight = bounded_weight(weight)?;
+        let stake = bounded_stake(stake)?;
+        Some(Member::joining(number, age, weight, stake))
+    }
+
+    pub(crate) fn joining(number: u8, age: u8, weight: u32, stake: u64) -> Member
+        requires weighs { ⌜ Weight weight ⌝ }
+        requires staked { ⌜ Stake stake ⌝ }
+        ensures { λ r. ⌜ r ≡ newcomer number age weight stake ⌝ }
+    {
+        Member {
+            number,
+            age,
+            weight,
+            stake,
+            paid: 0,
+            alive: true,
+        }
+    }
+
+    // Weight times stake: what it stands to lose in a year, in hundred-thousandths of a cent.
+    pub fn exposure(&self) -> u64
+        ensures value { λ r. ⌜ r ≡ now (self .entry) .weight * now (self .entry) .stake ⌝ }
+        ensures bound { λ r. ⌜ r < 2 ^ 50 ⌝ }
+    {
+        u64::from(self.weight) * self.stake
+    }
+}
+
+pub fn bounded_age(age: u8) -> Option<u8>
+    ensures { λ r. ⌜ r ≡ cond (fair-age age) (Some age) None ⌝ }
+{
+    if age < FIRST_AGE || age > LAST_AGE {
+        return None;
+    }
+    Some(age)
+}
+
+pub fn bounded_weight(weight: u32) -> Option<u32>
+    ensures { λ r. ⌜ r ≡ cond (fair-weight weight) (Some weight) None ⌝ }
+{
+    if weight == 0 || weight > MOST_WEIGHT {
+        return None;
+    }
+    Some(weight)
+}
+
+pub fn bounded_stake(stake: u64) -> Option<u64>
+    ensures { λ r. ⌜ r ≡ cond (fair-stake stake) (Some stake) None ⌝ }
+{
+    if stake == 0 || stake > MOST_STAKE {
+        return None;
+    }
+    Some(stake)
+}
