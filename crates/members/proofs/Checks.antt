@@ -70,3 +70,12 @@ handed-on false x y e = let z : _≡_ {A = ℕ} 0 1 = cc in absurd (omega arith)
 pub held-back : (b : Bool) (x : ℕ) → None ≡ cond b (Some x) None → b ≡ false
 held-back true x e = let z : _≡_ {A = ℕ} 0 1 = cc in absurd (omega arith)
 held-back false x e = refl
+
+lead-all : (good : ℕ → Bool) (xs : List ℕ) → ((i : ℕ) → i < length xs → good (getD xs i 0) ≡ true) → leading good xs ≡ length xs
+lead-all good [] each = refl
+lead-all good (x ∷ xs) each = let rest = lead-all good xs (λ i h. each (suc i) (omega arith)) in rw (each 0 (omega arith)) (omega arith)
+
+-- and the other way round
+pub none-fails : (good : ℕ → Bool) (n : ℕ) → ((i : ℕ) → i < n → good i ≡ true) → first-bad good n ≡ n
+unfolding first-bad
+none-fails good n each = lead-all good (counting 0 n) (λ i h. ap good (at good n i (omega (arith, length-counting 0 n))) ∙ each i (omega (arith, length-counting 0 n))) ∙ length-counting 0 n

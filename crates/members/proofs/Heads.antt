@@ -4,22 +4,25 @@ use mathlib.Core.Bool.{Bool, true, false, cond, not}
 use mathlib.Core.List.{List, _++_, map}
 use Prim.Native.Nat.{ℕ, _≤_, _<_}
 use native.Mathlib.Omega.{arith}
-use lib.Dec.{ltb, leb}
+use lib.Dec.{ltb}
 use lib.ListN.{length, drop}
 use Rattle.std.specs.Iters.{counting}
 use Rattle.std.proofs.shelf.Counted.{length-counting}
 use Rattle.std.proofs.shelf.Sums.{leading-le-length}
-use Rattle.std.proofs.shelf.Tests.{ltb-false, leb-true, and-parts, not-false}
+use Rattle.std.proofs.shelf.Tests.{ltb-false, le-ltb, not-false, not-from-true, cond-false}
 use Rattle.std.specs.declared.option.Option.{Option}
 use Rattle.std.specs.declared.option.Option.the-variants.{Some, None}
 use Rattle.std.specs.declared.result.Result.{Result}
 use Rattle.std.specs.declared.result.Result.the-variants.{Ok, Err}
 use Rattle.members.specs.Limits.{most-members, ages, fair-count}
-use Rattle.members.specs.Heads.{announced, head-length, table-of, first-bad, bad-weight, bad-age, bad-stake, Known, body-of, head-of, lacking, unless-lacking, answer, seated, member-at, members-of}
+use Rattle.members.specs.Heads.{announced, head-length, after-head, table-of, first-bad, bad-weight, bad-age, bad-stake, Known, body-of, head-of, lacking, unless-lacking, answer, seated, member-at, members-of}
+use Rattle.members.specs.Lines.{line-count}
 use Rattle.members.specs.declared.head.Head.{Head}
 use Rattle.members.specs.declared.head.Room.{Room}
 use Rattle.members.specs.declared.member.Member.{Member}
+use Rattle.members.specs.declared.refusal.Memory.{Memory}
 use Rattle.members.specs.declared.refusal.Refusal.{Refusal}
+use Rattle.members.proofs.Bounds.{fair-within}
 use Rattle.members.proofs.Checks.{passes}
 
 -- a check that was passed
@@ -51,16 +54,25 @@ accepted bs h e =
     let c = past _ _ _ h (b .1) in
     let d = past _ _ _ h (c .1) in
     let f = past _ _ _ h (d .1) in
-    let fair = and-parts (leb 1 n) (leb n most-members) (not-false _ (a .0)) in
+    let fair = fair-within 1 most-members n (not-false _ (a .0)) in
     record {
       is = ok-same _ h (sym (f .1));
-      some = leb-true 1 n (fair .0);
-      few = leb-true n most-members (fair .1);
+      some = fair .0;
+      few = fair .1;
       long = ltb-false (length bs) (head-length n) (b .0);
       weights = none-bad _ ages (c .0);
       aged = none-bad _ n (d .0);
       staked = none-bad _ n (f .0);
     }
+
+-- and the other way round
+pub accepts : (bs : List ℕ) → fair-count (announced bs) ≡ true → head-length (announced bs) ≤ length bs → bad-weight bs ≡ ages → bad-age bs (announced bs) ≡ announced bs → bad-stake bs (announced bs) ≡ announced bs → head-of bs ≡ Ok (record { count = announced bs; table = table-of bs })
+accepts bs fair long weights aged staked =
+    cond-false _ _ _ (not-from-true _ fair)
+    ∙ cond-false _ _ _ (le-ltb (length bs) (head-length (announced bs)) long)
+    ∙ cond-false _ _ _ (le-ltb (bad-weight bs) ages (omega arith))
+    ∙ cond-false _ _ _ (le-ltb (bad-age bs (announced bs)) (announced bs) (omega arith))
+    ∙ cond-false _ _ _ (le-ltb (bad-stake bs (announced bs)) (announced bs) (omega arith))
 
 -- so its members can be seated
 pub known : (bs : List ℕ) (h : Head) → Accepted bs h → Known bs (h .table) (h .count)
@@ -89,3 +101,15 @@ module _ (places : ℕ) (room : Room) (bs : List ℕ) (full : lacking places roo
   pub taken : (h : Head) (was after : List Member) → head-of bs ≡ Ok h → after ≡ map (member-at bs) (counting 0 (h .count)) ++ drop (h .count) was → after ≡ seated (answer places room bs) bs was
   unfolding members-of
   taken h was after e s = s ∙ ap (λ n. map (member-at bs) (counting 0 n) ++ drop (h .count) was) (ap (λ x. x .count) (accepted bs h e .is)) ∙ ap (λ r. seated r bs was) (answered h e)
+
+-- an answer that accepts was not for want of memory
+accepting : (o : Option Memory) (r : Result Head Refusal) (h : Head) → unless-lacking o r ≡ Ok h → r ≡ Ok h
+accepting (Some m) r h e = let z : _≡_ {A = ℕ} 0 1 = cc in absurd (omega arith)
+accepting None r h e = e
+
+pub from-answer : (places : ℕ) (room : Room) (bs : List ℕ) (h : Head) → answer places room bs ≡ Ok h → head-of bs ≡ Ok h
+from-answer places room bs h e = accepting (lacking places room bs) (head-of bs) h e
+
+-- memory that is long enough for all three
+pub full-room : (places : ℕ) (room : Room) (bs : List ℕ) → announced bs ≤ places → announced bs ≤ room .cents → line-count (after-head bs) ≤ room .lines → lacking places room bs ≡ None
+full-room places room bs p q r = cond-false _ _ _ (le-ltb places (announced bs) p) ∙ cond-false _ _ _ (le-ltb (room .cents) (announced bs) q) ∙ cond-false _ _ _ (le-ltb (room .lines) (line-count (after-head bs)) r)

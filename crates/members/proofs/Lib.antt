@@ -1,6 +1,11 @@
+pub mod Bounds
 pub mod Checks
+pub mod Founded
 pub mod Heads
 pub mod Lines
+pub mod Numbers
 pub mod Places
+pub mod Records
 pub mod Same
 pub mod Tables
+pub mod Written

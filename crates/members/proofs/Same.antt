@@ -1,12 +1,11 @@
 -- Members and tables are the same once their plain fields are: a bound has one proof. Assumes nothing.
 use mathlib.Core.Path.{_≡_}
 use mathlib.Core.HLevel.{isProp→PathP}
-use Prim.Native.Nat.{ℕ, _≤_, min, max}
+use Prim.Native.Nat.{_≤_}
 use native.Mathlib.Bridge.{le-prop}
 use native.Mathlib.Nat.{ℕ-set}
-use native.Mathlib.Omega.{arith}
 use lib.ListN.{length, getD}
-use Rattle.members.specs.Limits.{most-weight, most-stake, ages, into}
+use Rattle.members.specs.Limits.{most-weight, most-stake, ages}
 use Rattle.members.specs.declared.member.Member.{Member}
 use Rattle.members.specs.declared.table.Table.{Table}
 
@@ -29,7 +28,3 @@ same-table t u e i = record {
   whole = isProp→PathP (λ k. length (e k) ≡ ages) (λ k. ℕ-set _ _) (t .whole) (u .whole) i;
   weighs = λ n. (isProp→PathP (λ k. 1 ≤ getD (e k) n 1) (λ k. le-prop) (t .weighs n .0) (u .weighs n .0) i, isProp→PathP (λ k. getD (e k) n 1 ≤ most-weight) (λ k. le-prop) (t .weighs n .1) (u .weighs n .1) i);
 }
-
--- what is within the bounds is not moved by them
-pub into-same : (most n : ℕ) → 1 ≤ n → n ≤ most → n ≡ into most n
-into-same most n low high = omega arith

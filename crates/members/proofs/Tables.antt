@@ -2,24 +2,16 @@
 use mathlib.Core.Path.{_≡_, refl, sym, ap, subst, _∙_}
 use mathlib.Core.Bool.{true, false, cond}
 use mathlib.Core.List.{List, map}
-use mathlib.Core.Logic.{⊎-elim}
 use Prim.Native.Nat.{ℕ, _+_, _≤_, _<_}
 use native.Mathlib.Omega.{arith}
-use lib.Dec.{leb}
 use lib.ListN.{length, getD, set, replicate, length-set, length-replicate}
 use Rattle.std.specs.Iters.{counting}
 use Rattle.std.proofs.shelf.Counted.{fill-by-all}
 use Rattle.std.proofs.shelf.Edits.{fill-by-more}
-use Rattle.std.proofs.shelf.Lists.{getD-past}
-use Rattle.std.proofs.shelf.Tests.{and-parts, cases-lt, leb-true}
 use Rattle.members.specs.Limits.{Weight, ages, fair-weight, most-weight, into}
 use Rattle.members.specs.Heads.{first-bad, weight-at, weights-of, table-of}
 use Rattle.members.proofs.Checks.{Passed, passed-none, passed-more}
-use Rattle.members.proofs.Same.{into-same}
-
--- the test and the fact
-pub fair-weighs : (w : ℕ) → fair-weight w ≡ true → Weight w
-fair-weighs w h = let p = and-parts (leb 1 w) (leb w most-weight) h in (leb-true 1 w (p .0), leb-true w most-weight (p .1))
+use Rattle.members.proofs.Bounds.{fair-same}
 
 -- the weights below i stand in their places and are in bounds
 pub record Reading (bs ws : List ℕ) (i : ℕ) : Type 0 where
@@ -34,7 +26,7 @@ module _ (bs : List ℕ) where
   pub reading-more : (ws : List ℕ) (i w : ℕ) → i < ages → w ≡ weight-at bs i → fair-weight (weight-at bs i) ≡ true → Reading bs ws i → Reading bs (set ws i w) (i + 1)
   reading-more ws i w h e g r = record {
     long = length-set ws i w ∙ r .long;
-    filled = rw (e, into-same most-weight (weight-at bs i) (fair-weighs _ g .0) (fair-weighs _ g .1)) (fill-by-more (λ k. into most-weight (weight-at bs k)) ws i 1 (omega (arith, r .long)) (r .filled));
+    filled = rw (e, fair-same most-weight (weight-at bs i) g) (fill-by-more (λ k. into most-weight (weight-at bs k)) ws i 1 (omega (arith, r .long)) (r .filled));
     passed = passed-more _ _ i h g (r .passed);
   }
 

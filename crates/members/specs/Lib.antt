@@ -4,3 +4,4 @@ pub mod Limits
 pub mod Lines
 pub mod Members
 pub mod Refusals
+pub mod Written

@@ -6,6 +6,7 @@ ghost use lib.ListN.{length};
 ghost use Rattle.std.specs.declared.option.Option.the-variants.{Some, None};
 ghost use Rattle.members.specs.Heads.{announced, head-length, head-of, body-of, lacking, answer, after-head, seated};
 ghost use Rattle.members.specs.Limits.{fair-count};
+ghost use Rattle.members.specs.Written.{Head-reads-back, Head-is-its-bytes};
 use crate::limits::MEMBERS_AT;
 use crate::limits::MEMBER_BYTES;
 use crate::limits::MOST_MEMBERS;
@@ -37,6 +38,8 @@ pub struct Head {
 pub fn read_head(book: &[u8], members: &mut [Member], room: Room) -> Result<Head, Refusal>
     ensures value { λ r. ⌜ r ≡ answer (length (now (members .entry))) room (now (book .entry)) ⌝ }
     ensures members { λ r. ⌜ now (members .exit) ≡ seated (answer (length (now (members .entry))) room (now (book .entry))) (now (book .entry)) (now (members .entry)) ⌝ }
+    ensures back { λ _. ⌜ Head-reads-back ⌝ }
+    ensures bytes { λ _. ⌜ Head-is-its-bytes ⌝ }
 {
     if let Some(memory) = lacking_memory(book, members.len(), room) {
         return Err(Refusal::Short(memory));

@@ -1,7 +1,7 @@
 // The lines of a book, read one by one from the part of the book that begins with them.
 ghost use mathlib.Core.Path.{_≡_};
-ghost use lib.ListN.{length};
 ghost use Rattle.members.specs.Lines.{line-at, death-at, line-count, handed};
+ghost use Rattle.members.specs.Written.{Line-reads-back, Line-is-its-bytes, Lines-read-back, Lines-are-their-bytes};
 
 const DEATH: u8 = 1;
 const NEW_YEAR: u8 = 2;
@@ -16,7 +16,9 @@ pub enum Line {
 
 // The first line of a part of the book, with the part after it; none where no line can be read.
 pub fn read_line(part: &[u8]) -> Option<(Line, &[u8])>
-    ensures { λ r. ⌜ handed r ≡ line-at (now (part .entry)) ⌝ }
+    ensures value { λ r. ⌜ handed r ≡ line-at (now (part .entry)) ⌝ }
+    ensures back { λ _. ⌜ Line-reads-back ⌝ }
+    ensures bytes { λ _. ⌜ Line-is-its-bytes ⌝ }
 {
     let [kind, rest @ ..] = part else {
         return None;
@@ -43,7 +45,9 @@ fn read_death(part: &[u8]) -> Option<(Line, &[u8])>
 
 // How many lines a part of the book has. One that cannot be read is the last.
 pub fn count_lines(part: &[u8]) -> usize
-    ensures { λ r. ⌜ r ≡ line-count (now (part .entry)) ⌝ }
+    ensures value { λ r. ⌜ r ≡ line-count (now (part .entry)) ⌝ }
+    ensures back { λ _. ⌜ Lines-read-back ⌝ }
+    ensures bytes { λ _. ⌜ Lines-are-their-bytes ⌝ }
 {
     let mut count = 0;
     let mut left = part;

@@ -1,5 +1,6 @@
 use mathlib.Core.Path.{refl}
-use Rattle.members.proofs.Same.{same-member, into-same}
+use Rattle.members.proofs.Bounds.{into-same}
+use Rattle.members.proofs.Same.{same-member}
 use Rattle.members.proofs.member.Member.joining.Needs as need
 
 pub returns : need.returns
