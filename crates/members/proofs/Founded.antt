@@ -22,7 +22,7 @@ use Rattle.members.specs.Heads.{announced, head-length, after-head, weight-at,
 use Rattle.members.specs.Limits.{Weight, Stake, most-weight, most-stake, most-members, ages, fair-weight, fair-age, fair-stake, from-to, into}
 use Rattle.members.specs.Lines.{line-count}
 use Rattle.members.specs.Members.{newcomer, nobody}
-use Rattle.members.specs.Written.{member-bytes, head-bytes, Newcomer, Founders, Reads, Head-reads-back, Book-of, Head-is-its-bytes}
+use Rattle.members.specs.Written.{member-bytes, head-bytes, Newcomer, Founders, Reads, Head-reads-back, Book-of, Head-is-its-bytes, lines-bytes, Meaning, meaning-of, Accepts, One-book-one-meaning}
 use Rattle.members.specs.declared.head.Head.{Head}
 use Rattle.members.specs.declared.head.Room.{Room}
 use Rattle.members.specs.declared.member.Member.{Member}
@@ -33,6 +33,7 @@ use Rattle.members.proofs.Heads.{Accepted, accepted, accepts, answered, from-a
 use Rattle.members.proofs.Numbers.{number-written, number-read, byte-at}
 use Rattle.members.proofs.Records.{records-length, after-records, at-record, records-read}
 use Rattle.members.proofs.Same.{same-member, same-table}
+use Rattle.members.proofs.Written.{lines-are-their-bytes}
 
 -- a head that was written, and what follows it
 module _ (t : Table) (ms : List Member) (bs : List ℕ) where
@@ -198,3 +199,17 @@ pub head-is-its-bytes : Head-is-its-bytes
 head-is-its-bytes places room bs h p e =
     let a = accepted bs h (from-answer places room bs h e) in
     record { split = book-split bs h p a; count = count-back bs h p a ∙ sym (ap (λ x. x .count) (a .is)); founders = founders bs h p a }
+
+-- a book is the bytes of what it means
+book-bytes : Meaning → List ℕ
+book-bytes m = head-bytes (m .table) (m .members) ++ (lines-bytes (m .lines) ++ m .left)
+
+from-meaning : (bs : List ℕ) → Bytes bs → Accepts bs → bs ≡ book-bytes (meaning-of bs)
+unfolding book-bytes
+from-meaning bs p (places, (room, (h, e))) =
+    let a = accepted bs h (from-answer places room bs h e) in
+    let lines = lines-are-their-bytes (after-head bs) (part-bytes bs h p a (head-length (announced bs))) in
+    book-split bs h p a ∙ ap (λ x. head-bytes (x .table) (members-of bs) ++ after-head bs) (a .is) ∙ ap (λ l. head-bytes (table-of bs) (members-of bs) ++ l) (lines .split)
+
+pub one-book-one-meaning : One-book-one-meaning
+one-book-one-meaning bs cs p q a b e = from-meaning bs p a ∙ ap book-bytes e ∙ sym (from-meaning cs q b)

@@ -67,19 +67,19 @@ pub at-some :
 at-some P bs death year wound x e =
     ⊎-elim
     (λ (k : getD bs 0 0 ≡ 1).
-        ⊎-elim
-        (λ (short : length (drop 1 bs) < 5). absurd (none-some x (death-cut (drop 1 bs) short ∙ sym (kind-death bs k) ∙ e)))
-        (λ (long : 5 ≤ length (drop 1 bs)). subst P (some-same _ x (death-is (drop 1 bs) long ∙ sym (kind-death bs k) ∙ e)) (death k long))
-        (cases-lt (length (drop 1 bs)) 5))
+    ⊎-elim
+    (λ (short : length (drop 1 bs) < 5). absurd (none-some x (death-cut (drop 1 bs) short ∙ sym (kind-death bs k) ∙ e)))
+    (λ (long : 5 ≤ length (drop 1 bs)). subst P (some-same _ x (death-is (drop 1 bs) long ∙ sym (kind-death bs k) ∙ e)) (death k long))
+    (cases-lt (length (drop 1 bs)) 5))
     (λ (a : getD bs 0 0 ≡ 1 → ⊥).
-        ⊎-elim
-        (λ (k : getD bs 0 0 ≡ 2). subst P (some-same _ x (sym (kind-new-year bs k) ∙ e)) (year k))
-        (λ (b : getD bs 0 0 ≡ 2 → ⊥).
-            ⊎-elim
-            (λ (k : getD bs 0 0 ≡ 3). subst P (some-same _ x (sym (kind-wound-up bs k) ∙ e)) (wound k))
-            (λ (c : getD bs 0 0 ≡ 3 → ⊥). absurd (none-some x (sym (kind-none bs a b c) ∙ e)))
-            (cases-eq (getD bs 0 0) 3))
-        (cases-eq (getD bs 0 0) 2))
+    ⊎-elim
+    (λ (k : getD bs 0 0 ≡ 2). subst P (some-same _ x (sym (kind-new-year bs k) ∙ e)) (year k))
+    (λ (b : getD bs 0 0 ≡ 2 → ⊥).
+    ⊎-elim
+    (λ (k : getD bs 0 0 ≡ 3). subst P (some-same _ x (sym (kind-wound-up bs k) ∙ e)) (wound k))
+    (λ (c : getD bs 0 0 ≡ 3 → ⊥). absurd (none-some x (sym (kind-none bs a b c) ∙ e)))
+    (cases-eq (getD bs 0 0) 3))
+    (cases-eq (getD bs 0 0) 2))
     (cases-eq (getD bs 0 0) 1)
 
 -- what follows a line is shorter

@@ -8,7 +8,7 @@ use Rattle.std.specs.shelf.Lists.{All, joined}
 use Rattle.std.specs.declared.option.Option.the-variants.{Some, None}
 use Rattle.std.specs.declared.result.Result.the-variants.{Ok}
 use Rattle.members.specs.Bytes.{Bytes, number-bytes, weight-for}
-use Rattle.members.specs.Heads.{answer, members-of, after-head}
+use Rattle.members.specs.Heads.{answer, table-of, members-of, after-head}
 use Rattle.members.specs.Limits.{most-members, fair-age}
 use Rattle.members.specs.Lines.{line-bytes, line-at, line-count, text-of}
 use Rattle.members.specs.Members.{nobody}
@@ -94,3 +94,22 @@ pub record Book-of (bs : List ℕ) (h : Head) : Type 0 where
 -- so it is with every book that is accepted
 abbrev pub Head-is-its-bytes : Type 0
 Head-is-its-bytes = (places : ℕ) (room : Room) (bs : List ℕ) (h : Head) → Bytes bs → answer places room bs ≡ Ok h → Book-of bs h
+
+-- what a book means: a table, members, lines, and bytes at its end at which no line can be read
+pub record Meaning : Type 0 where
+  pub table : Table
+  pub members : List Member
+  pub lines : List Line
+  pub left : List ℕ
+
+-- the meaning of a book
+abbrev pub meaning-of : List ℕ → Meaning
+meaning-of bs = record { table = table-of bs; members = members-of bs; lines = text-of (after-head bs) .lines; left = text-of (after-head bs) .left }
+
+-- a book is accepted by the reader where enough memory is lent
+abbrev pub Accepts : List ℕ → Type 0
+Accepts bs = (places : ℕ) × ((room : Room) × ((h : Head) × (answer places room bs ≡ Ok h)))
+
+-- no two books that are accepted mean the same
+abbrev pub One-book-one-meaning : Type 0
+One-book-one-meaning = (bs cs : List ℕ) → Bytes bs → Bytes cs → Accepts bs → Accepts cs → meaning-of bs ≡ meaning-of cs → bs ≡ cs

@@ -1,23 +1,29 @@
 // The head of a book: how many members, the table of weights, and each member's age and stake.
 ghost use mathlib.Core.Path.{_≡_};
-ghost use mathlib.Core.Bool.{cond};
-ghost use Prim.Native.Nat.{_≤_, _<_};
-ghost use lib.ListN.{length};
-ghost use Rattle.std.specs.declared.option.Option.the-variants.{Some, None};
-ghost use Rattle.members.specs.Heads.{announced, head-length, head-of, body-of, lacking, answer, after-head, seated};
-ghost use Rattle.members.specs.Limits.{fair-count};
-ghost use Rattle.members.specs.Written.{Head-reads-back, Head-is-its-bytes};
-use crate::limits::MEMBERS_AT;
+ghost use mathlib.Core.List.{_++_, map};
+ghost use Prim.Native.Nat.{_+_, _≤_, _<_};
+ghost use lib.ListN.{length, drop};
+ghost use Rattle.std.specs.Iters.{counting};
+ghost use Rattle.members.specs.Bytes.{number};
+ghost use Rattle.members.specs.Heads.{announced, head-length, after-head, age-at, stake-at, table-of, member-at, bad-weight, bad-age, bad-stake, checked, Known, body-of, head-of, lacking, answer, seated};
+ghost use Rattle.members.specs.Limits.{ages};
+ghost use Rattle.members.specs.Written.{Head-reads-back, Head-is-its-bytes, One-book-one-meaning};
+ghost use Rattle.members.specs.declared.refusal.Refusal.the-variants as refusal;
+use crate::limits::AGES;
+use crate::limits::FIRST_AGE;
+use crate::limits::LAST_AGE;
 use crate::limits::MEMBER_BYTES;
+use crate::limits::MEMBERS_AT;
 use crate::limits::MOST_MEMBERS;
+use crate::limits::MOST_STAKE;
+use crate::limits::MOST_WEIGHT;
+use crate::limits::TABLE_AT;
+use crate::limits::WEIGHT_BYTES;
+use crate::limits::bounded;
 use crate::line::count_lines;
 use crate::member::Member;
 use crate::refusal::Memory;
 use crate::refusal::Refusal;
-use crate::seats::check_ages;
-use crate::seats::check_stakes;
-use crate::seats::read_table;
-use crate::seats::seat;
 use crate::table::Table;
 
 // Places that are lent for cents, one a member, and for lines, one a line.
@@ -40,6 +46,7 @@ pub fn read_head(book: &[u8], members: &mut [Member], room: Room) -> Result<Head
     ensures members { λ r. ⌜ now (members .exit) ≡ seated (answer (length (now (members .entry))) room (now (book .entry))) (now (book .entry)) (now (members .entry)) ⌝ }
     ensures back { λ _. ⌜ Head-reads-back ⌝ }
     ensures bytes { λ _. ⌜ Head-is-its-bytes ⌝ }
+    ensures once { λ _. ⌜ One-book-one-meaning ⌝ }
 {
     if let Some(memory) = lacking_memory(book, members.len(), room) {
         return Err(Refusal::Short(memory));
@@ -88,9 +95,10 @@ fn head_length(count: usize) -> usize
 fn parse_head(book: &[u8]) -> Result<Head, Refusal>
     ensures { λ r. ⌜ r ≡ head-of (now (book .entry)) ⌝ }
 {
-    let Some(count) = bounded_count(announced_count(book)) else {
+    let Some(count) = bounded(announced_count(book) as u64, 1, MOST_MEMBERS) else {
         return Err(Refusal::Count);
     };
+    let count = count as usize;
     let Some(_) = book.split_at_checked(head_length(count)) else {
         return Err(Refusal::Table { place: book.len() });
     };
@@ -119,11 +127,98 @@ fn announced_count(book: &[u8]) -> usize
     usize::from(*count)
 }
 
-fn bounded_count(count: usize) -> Option<usize>
-    ensures { λ r. ⌜ r ≡ cond (fair-count count) (Some count) None ⌝ }
+// The table, each of its weights read and checked.
+fn read_table(book: &[u8]) -> Result<Table, Refusal>
+    requires { ⌜ 285 ≤ length (now book) ⌝ }
+    ensures { λ r. ⌜ r ≡ checked (bad-weight (now (book .entry))) ages refusal.Table (table-of (now (book .entry))) ⌝ }
 {
-    if count == 0 || count > MOST_MEMBERS {
-        return None;
+    let mut weights = [1; AGES];
+    for index in 0..AGES {
+        let Some(weight) = bounded(
+            number_at(book, TABLE_AT + WEIGHT_BYTES * index),
+            1,
+            MOST_WEIGHT,
+        ) else {
+            return Err(Refusal::Table { place: index });
+        };
+        weights[index] = weight as u32;
     }
-    Some(count)
+    Ok(Table { weights })
+}
+
+// That each of the first members has an age that the table has.
+fn check_ages(book: &[u8], count: usize) -> Result<(), Refusal>
+    requires { ⌜ head-length count ≤ length (now book) ⌝ }
+    ensures { λ r. ⌜ r ≡ checked (bad-age (now (book .entry)) count) count refusal.Age tt ⌝ }
+{
+    for member in 0..count {
+        let Some(_) = bounded(age_of(book, member), FIRST_AGE, LAST_AGE) else {
+            return Err(Refusal::Age { member });
+        };
+    }
+    Ok(())
+}
+
+// That each of the first members has a stake within the bounds.
+fn check_stakes(book: &[u8], count: usize) -> Result<(), Refusal>
+    requires { ⌜ head-length count ≤ length (now book) ⌝ }
+    ensures { λ r. ⌜ r ≡ checked (bad-stake (now (book .entry)) count) count refusal.Stake tt ⌝ }
+{
+    for member in 0..count {
+        let Some(_) = bounded(stake_of(book, member), 1, MOST_STAKE) else {
+            return Err(Refusal::Stake { member });
+        };
+    }
+    Ok(())
+}
+
+// The age that stands in the book for a member.
+fn age_of(book: &[u8], member: usize) -> u64
+    requires { ⌜ head-length (member + 1) ≤ length (now book) ⌝ }
+    ensures value { λ r. ⌜ r ≡ age-at (now (book .entry)) member ⌝ }
+    ensures byte { λ r. ⌜ r < 256 ⌝ }
+{
+    u64::from(book[MEMBERS_AT + MEMBER_BYTES * member])
+}
+
+// The stake that stands in the book for a member.
+fn stake_of(book: &[u8], member: usize) -> u64
+    requires { ⌜ head-length (member + 1) ≤ length (now book) ⌝ }
+    ensures { λ r. ⌜ r ≡ stake-at (now (book .entry)) member ⌝ }
+{
+    number_at(book, MEMBERS_AT + MEMBER_BYTES * member + 1)
+}
+
+// Seats the members in the first places of lent memory.
+fn seat(book: &[u8], table: &Table, members: &mut [Member], count: usize)
+    requires known { ⌜ Known (now book) (now table) count ⌝ }
+    requires room { ⌜ count ≤ length (now members) ⌝ }
+    ensures { λ _. ⌜ now (members .exit) ≡ map (member-at (now (book .entry))) (counting 0 count) ++ drop count (now (members .entry)) ⌝ }
+{
+    for number in 0..count {
+        members[number] = read_member(book, table, number, count);
+    }
+}
+
+// A member, of a book that is known to be in order.
+fn read_member(book: &[u8], table: &Table, number: usize, count: usize) -> Member
+    requires known { ⌜ Known (now book) (now table) count ⌝ }
+    requires inside { ⌜ number < count ⌝ }
+    ensures { λ r. ⌜ r ≡ member-at (now (book .entry)) number ⌝ }
+{
+    let age = age_of(book, number);
+    Member::joining(
+        number as u8,
+        age as u8,
+        table.weight_of(age),
+        stake_of(book, number),
+    )
+}
+
+// The number that stands at a place of the book.
+fn number_at(book: &[u8], at: usize) -> u64
+    requires { ⌜ at + 4 ≤ length (now book) ⌝ }
+    ensures { λ r. ⌜ r ≡ number (drop at (now (book .entry))) ⌝ }
+{
+    u64::from(u32::from_le_bytes([book[at], book[at + 1], book[at + 2], book[at + 3]]))
 }

@@ -1,12 +1,10 @@
 // Members, the table of weights, and the reader of a book's head and of its lines.
-mod bytes;
 mod head;
 mod limits;
 mod line;
 mod member;
 mod people;
 mod refusal;
-mod seats;
 mod table;
 
 pub use head::Head;

@@ -4,7 +4,9 @@ ghost use Rattle.members.specs.Lines.{line-at, death-at, line-count, handed};
 ghost use Rattle.members.specs.Written.{Line-reads-back, Line-is-its-bytes, Lines-read-back, Lines-are-their-bytes};
 
 const DEATH: u8 = 1;
+
 const NEW_YEAR: u8 = 2;
+
 const WOUND_UP: u8 = 3;
 
 #[derive(Clone, Copy, PartialEq, Eq, Debug)]

@@ -3,12 +3,11 @@ ghost use mathlib.Core.Path.{_≡_};
 ghost use mathlib.Core.Bool.{cond, _&&_};
 ghost use Prim.Native.Nat.{_*_, _<_, _^_};
 ghost use Rattle.std.specs.declared.option.Option.the-variants.{Some, None};
-ghost use Rattle.members.specs.Limits.{Weight, Stake, fair-weight, fair-stake, fair-age};
+ghost use Rattle.members.specs.Limits.{Weight, Stake, fair-weight, fair-stake};
 ghost use Rattle.members.specs.Members.{newcomer, nobody};
-use crate::limits::FIRST_AGE;
-use crate::limits::LAST_AGE;
 use crate::limits::MOST_STAKE;
 use crate::limits::MOST_WEIGHT;
+use crate::limits::bounded;
 use crate::member::Member;
 
 impl Member {
@@ -30,9 +29,9 @@ impl Member {
     pub fn new(number: u8, age: u8, weight: u32, stake: u64) -> Option<Member>
         ensures { λ r. ⌜ r ≡ cond (fair-weight weight && fair-stake stake) (Some (newcomer number age weight stake)) None ⌝ }
     {
-        let weight = bounded_weight(weight)?;
-        let stake = bounded_stake(stake)?;
-        Some(Member::joining(number, age, weight, stake))
+        let weight = bounded(u64::from(weight), 1, MOST_WEIGHT)?;
+        let stake = bounded(stake, 1, MOST_STAKE)?;
+        Some(Member::joining(number, age, weight as u32, stake))
     }
 
     pub(crate) fn joining(number: u8, age: u8, weight: u32, stake: u64) -> Member
@@ -57,31 +56,4 @@ impl Member {
     {
         u64::from(self.weight) * self.stake
     }
-}
-
-pub fn bounded_age(age: u8) -> Option<u8>
-    ensures { λ r. ⌜ r ≡ cond (fair-age age) (Some age) None ⌝ }
-{
-    if age < FIRST_AGE || age > LAST_AGE {
-        return None;
-    }
-    Some(age)
-}
-
-pub fn bounded_weight(weight: u32) -> Option<u32>
-    ensures { λ r. ⌜ r ≡ cond (fair-weight weight) (Some weight) None ⌝ }
-{
-    if weight == 0 || weight > MOST_WEIGHT {
-        return None;
-    }
-    Some(weight)
-}
-
-pub fn bounded_stake(stake: u64) -> Option<u64>
-    ensures { λ r. ⌜ r ≡ cond (fair-stake stake) (Some stake) None ⌝ }
-{
-    if stake == 0 || stake > MOST_STAKE {
-        return None;
-    }
-    Some(stake)
 }

@@ -9,6 +9,7 @@ ghost use Rattle.members.specs.Bytes.{weight-for};
 use crate::limits::AGES;
 use crate::limits::FIRST_AGE;
 use crate::limits::LAST_AGE;
+use crate::limits::bounded;
 
 #[derive(Clone, Copy)]
 pub struct Table {
@@ -22,19 +23,17 @@ impl Table {
     pub fn weight(&self, age: u8) -> Option<u32>
         ensures { λ r. ⌜ r ≡ cond (fair-age age) (Some (weight-for (now (self .entry) .weights) age)) None ⌝ }
     {
-        if age < FIRST_AGE || age > LAST_AGE {
-            return None;
-        }
+        let age = bounded(u64::from(age), FIRST_AGE, LAST_AGE)?;
         Some(self.weight_of(age))
     }
 
     // The weight at an age that the table has.
-    pub(crate) fn weight_of(&self, age: u8) -> u32
+    pub(crate) fn weight_of(&self, age: u64) -> u32
         requires low { ⌜ first-age ≤ age ⌝ }
         requires high { ⌜ age ≤ last-age ⌝ }
         ensures value { λ r. ⌜ r ≡ weight-for (now (self .entry) .weights) age ⌝ }
         ensures weighs { λ r. ⌜ Weight r ⌝ }
     {
-        self.weights[usize::from(age - FIRST_AGE)]
+        self.weights[(age - FIRST_AGE) as usize]
     }
 }

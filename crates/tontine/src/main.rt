@@ -51,7 +51,9 @@ fn check_arguments(rt: &LibcRuntime) -> Result<(), AnyError> {
 // The whole of standard input, unless it is longer than a book may be.
 fn read_book(rt: &LibcRuntime) -> Result<Vec<u8>, AnyError> {
     let mut book = Vec::new(rt.alloc());
-    rt.stdin().take(MOST_BYTES as u64 + 1).read_to_end(&mut book)?;
+    rt.stdin()
+        .take(MOST_BYTES as u64 + 1)
+        .read_to_end(&mut book)?;
     if book.len() > MOST_BYTES {
         return Err("the book is longer than 16384 bytes".into());
     }

@@ -1,7 +1,7 @@
 use mathlib.Core.Path.{_≡_, sym, ap}
 use native.Mathlib.Omega.{arith}
 use borrow.Author.Needs.{needs}
-use Rattle.members.proofs.Founded.{head-reads-back, head-is-its-bytes}
+use Rattle.members.proofs.Founded.{head-reads-back, head-is-its-bytes, one-book-one-meaning}
 use Rattle.members.proofs.Heads.{accepted, known, roomy, answered, taken}
 use Rattle.members.proofs.head.read_head.Needs as need
 
@@ -14,10 +14,10 @@ pub returns : need.returns
 returns c =
     let full = sym (c .in-rest .ensures tt) in
     let head = sym (c .in-Continue-head .ensures tt) in
-    record { value = answered _ _ (c .args .book .now) full _ head; members = taken _ _ (c .args .book .now) full _ _ _ head (c .seat .ensures); back = head-reads-back; bytes = head-is-its-bytes }
+    record { value = answered _ _ (c .args .book .now) full _ head; members = taken _ _ (c .args .book .now) full _ _ _ head (c .seat .ensures); back = head-reads-back; bytes = head-is-its-bytes; once = one-book-one-meaning }
 
 pub returns-in-Some : need.returns-in-Some
-returns-in-Some c = record { value = search needs; members = search needs; back = head-reads-back; bytes = head-is-its-bytes }
+returns-in-Some c = record { value = search needs; members = search needs; back = head-reads-back; bytes = head-is-its-bytes; once = one-book-one-meaning }
 
 pub returns-in-Break-head : need.returns-in-Break-head
-returns-in-Break-head c = record { value = search needs; members = search needs; back = head-reads-back; bytes = head-is-its-bytes }
+returns-in-Break-head c = record { value = search needs; members = search needs; back = head-reads-back; bytes = head-is-its-bytes; once = one-book-one-meaning }

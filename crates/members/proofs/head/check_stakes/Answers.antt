@@ -3,7 +3,7 @@ use native.Mathlib.Omega.{arith}
 use Rattle.members.specs.Limits.{fair-stake}
 use Rattle.members.specs.declared.refusal.Refusal.the-variants.{Stake}
 use Rattle.members.proofs.Checks.{passed-none, passed-more, at-failed, at-end, handed-on, held-back}
-use Rattle.members.proofs.seats.check_stakes.Needs as need
+use Rattle.members.proofs.head.check_stakes.Needs as need
 
 pub loop-member-holds : need.loop-member-holds
 loop-member-holds c = passed-none _ _

@@ -3,7 +3,7 @@ use native.Mathlib.Omega.{arith}
 use lib.ListN.{length}
 use Rattle.members.specs.Heads.{member-at}
 use Rattle.members.proofs.Places.{seat-more}
-use Rattle.members.proofs.seats.seat.Needs as need
+use Rattle.members.proofs.head.seat.Needs as need
 
 pub loop-number-again : need.loop-number-again
 loop-number-again c =

@@ -7,7 +7,7 @@ use Rattle.members.specs.declared.refusal.Refusal.the-variants as refusal
 use Rattle.members.proofs.Checks.{at-failed, at-end, handed-on, held-back}
 use Rattle.members.proofs.Same.{same-table}
 use Rattle.members.proofs.Tables.{reading-none, reading-more, reading-all, weighs}
-use Rattle.members.proofs.seats.read_table.Needs as need
+use Rattle.members.proofs.head.read_table.Needs as need
 
 pub loop-index-holds : need.loop-index-holds
 loop-index-holds c = reading-none (c .args .book .now) _ refl

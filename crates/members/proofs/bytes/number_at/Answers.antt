@@ -1,6 +1,0 @@
-use native.Mathlib.Nat.{add-zero}
-use lib.Seq.{getD-drop}
-use Rattle.members.proofs.bytes.number_at.Needs as need
-
-pub returns : need.returns
-returns c = simp (getD-drop, add-zero) (c .from-le-bytes .ensures)
