@@ -6,12 +6,13 @@ mod member;
 mod people;
 mod refusal;
 mod table;
+#[cfg(test)]
+mod tests;
 
 pub use head::Head;
 pub use head::Room;
 pub use head::lines_part;
 pub use head::read_head;
-pub use limits::MOST_MEMBERS;
 pub use line::Line;
 pub use line::count_lines;
 pub use line::read_line;
