@@ -13,8 +13,6 @@ const MOST_BYTES: usize = 16_384;
 // One place for each member that a book can announce, so that too many members are told of as such.
 const PLACES: usize = 255;
 
-const USAGE: &str = "usage: tontine < BOOK (a book of at most 16384 bytes; no arguments)";
-
 fn main(rt: LibcRuntime) -> Result<(), AnyError> {
     let result = run(&rt);
     if let Err(e) = &result {
@@ -42,10 +40,14 @@ fn check_arguments(rt: &LibcRuntime) -> Result<(), AnyError> {
     let mut arguments = env::args(rt)?;
     // the first is the program's own name
     let _ = arguments.next();
-    if arguments.next().is_some() {
-        return Err(USAGE.into());
-    }
-    Ok(())
+    let Some(unknown) = arguments.next() else {
+        return Ok(());
+    };
+    let usage = format!(
+        rt.alloc(),
+        "usage: tontine < BOOK (unknown argument: {unknown})"
+    )?;
+    Err(usage.into())
 }
 
 // The whole of standard input, unless it is longer than a book may be.
