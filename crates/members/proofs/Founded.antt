@@ -19,7 +19,7 @@ use Rattle.std.specs.declared.result.Result.{Result}
 use Rattle.std.specs.declared.result.Result.the-variants.{Ok, Err}
 use Rattle.members.specs.Bytes.{Bytes, number, number-bytes, weight-for}
 use Rattle.members.specs.Heads.{announced, head-length, after-head, weight-at, age-at, stake-at, weights-of, table-of, member-at, members-of, first-bad, bad-weight, bad-age, bad-stake, body-of, head-of, lacking, answer}
-use Rattle.members.specs.Limits.{Weight, Stake, most-weight, most-stake, most-members, ages, fair-weight, fair-age, fair-stake, from-to, into}
+use Rattle.members.specs.Limits.{Weight, Stake, most-weight, most-stake, most-members, first-age, ages, table-at, weight-size, members-at, member-size, fair-weight, fair-age, fair-stake, from-to, into}
 use Rattle.members.specs.Lines.{line-count}
 use Rattle.members.specs.Members.{newcomer, nobody}
 use Rattle.members.specs.Written.{member-bytes, head-bytes, Newcomer, Founders, Reads, Head-reads-back, Book-of, Head-is-its-bytes, lines-bytes, Meaning, meaning-of, Accepts, One-book-one-meaning}
@@ -43,32 +43,31 @@ module _ (t : Table) (ms : List Member) (bs : List ℕ) where
   abbrev people : List ℕ
   people = joined member-bytes ms ++ bs
 
-  table-part : drop 1 book ≡ joined number-bytes (t .weights) ++ people
+  table-part : drop table-at book ≡ joined number-bytes (t .weights) ++ people
   table-part = append-assoc (joined number-bytes (t .weights)) (joined member-bytes ms) bs
 
-  in-table : (i : ℕ) → drop (1 + 4 * i) book ≡ drop (4 * i) (joined number-bytes (t .weights) ++ people)
-  in-table i = sym (drop-drop (4 * i) 1 book) ∙ ap (drop (4 * i)) table-part
+  in-table : (i : ℕ) → drop (table-at + weight-size * i) book ≡ drop (weight-size * i) (joined number-bytes (t .weights) ++ people)
+  in-table i = sym (drop-drop (weight-size * i) table-at book) ∙ ap (drop (weight-size * i)) table-part
 
-  in-people : (i : ℕ) → drop (285 + 5 * i) book ≡ drop (5 * i) people
+  in-people : (i : ℕ) → drop (head-length i) book ≡ drop (member-size * i) people
   in-people i =
-      sym (drop-drop (5 * i) 285 book)
-      ∙ ap (drop (5 * i)) (in-table 71 ∙ after-records number-bytes 4 (λ n. refl) (t .weights) people 71 (omega (arith, t .whole)) ∙ ap (λ l. joined number-bytes l ++ people) (drop-all 71 (t .weights) (omega (arith, t .whole))))
+      sym (drop-drop (member-size * i) members-at book)
+      ∙ ap (drop (member-size * i)) (in-table ages ∙ after-records number-bytes weight-size (λ n. refl) (t .weights) people ages (omega (arith, t .whole)) ∙ ap (λ l. joined number-bytes l ++ people) (drop-all ages (t .weights) (omega (arith, t .whole))))
 
   weight-back : (i : ℕ) → i < ages → weight-at book i ≡ getD (t .weights) i 1
   weight-back i h =
-      ap number (in-table i ∙ at-record number-bytes 4 (λ n. refl) (t .weights) people i 1 (omega (arith, t .whole)))
+      ap number (in-table i ∙ at-record number-bytes weight-size (λ n. refl) (t .weights) people i 1 (omega (arith, t .whole)))
       ∙ number-written (getD (t .weights) i 1) (joined number-bytes (drop (i + 1) (t .weights)) ++ people) (omega (arith, t .weighs i .1))
 
-  person : (i : ℕ) → i < length ms → drop (285 + 5 * i) book ≡ member-bytes (getD ms i nobody) ++ (joined member-bytes (drop (i + 1) ms) ++ bs)
-  person i h = in-people i ∙ at-record member-bytes 5 (λ m. refl) ms bs i nobody h
+  person : (i : ℕ) → i < length ms → drop (head-length i) book ≡ member-bytes (getD ms i nobody) ++ (joined member-bytes (drop (i + 1) ms) ++ bs)
+  person i h = in-people i ∙ at-record member-bytes member-size (λ m. refl) ms bs i nobody h
 
   age-back : (i : ℕ) → i < length ms → age-at book i ≡ getD ms i nobody .age
-  age-back i h = let z : 285 + 5 * i + 0 ≡ 285 + 5 * i = omega arith in ap (λ n. getD book n 0) (sym z) ∙ sym (getD-drop (285 + 5 * i) book 0 0) ∙ ap (λ l. getD l 0 0) (person i h)
+  age-back i h = let z : head-length i + 0 ≡ head-length i = omega arith in ap (λ n. getD book n 0) (sym z) ∙ sym (getD-drop (head-length i) book 0 0) ∙ ap (λ l. getD l 0 0) (person i h)
 
   stake-back : (i : ℕ) → i < length ms → stake-at book i ≡ getD ms i nobody .stake
   stake-back i h =
-      let z : 286 + 5 * i ≡ 285 + 5 * i + 1 = omega arith in
-      ap (λ n. number (drop n book)) z ∙ ap number (sym (drop-drop 1 (285 + 5 * i) book) ∙ ap (drop 1) (person i h))
+      ap number (sym (drop-drop 1 (head-length i) book) ∙ ap (drop 1) (person i h))
       ∙ number-written (getD ms i nobody .stake) (joined member-bytes (drop (i + 1) ms) ++ bs) (omega (arith, getD ms i nobody .staked .1))
 
   weights-back : weights-of book ≡ t .weights
@@ -77,7 +76,7 @@ module _ (t : Table) (ms : List Member) (bs : List ℕ) where
       sym (fill-by-all (λ i. into most-weight (weight-at book i)) (t .weights) ages 1 (t .whole) (λ i h. into-same most-weight _ (t .weighs i .0) (t .weighs i .1) ∙ ap (into most-weight) (sym (weight-back i h))))
 
   lines-back : after-head book ≡ bs
-  lines-back = in-people (length ms) ∙ after-records member-bytes 5 (λ m. refl) ms bs (length ms) (omega arith) ∙ ap (λ l. joined member-bytes l ++ bs) (drop-all (length ms) ms (omega arith))
+  lines-back = in-people (length ms) ∙ after-records member-bytes member-size (λ m. refl) ms bs (length ms) (omega arith) ∙ ap (λ l. joined member-bytes l ++ bs) (drop-all (length ms) ms (omega arith))
 
   module _ (f : Founders t ms) where
     member-back : (i : ℕ) → i < length ms → getD ms i nobody ≡ member-at book i
@@ -108,8 +107,8 @@ module _ (t : Table) (ms : List Member) (bs : List ℕ) where
           ap length table-part,
           length-append (joined number-bytes (t .weights)) people,
           length-append (joined member-bytes ms) bs,
-          records-length number-bytes 4 (λ n. refl) (t .weights),
-          records-length member-bytes 5 (λ m. refl) ms,
+          records-length number-bytes weight-size (λ n. refl) (t .weights),
+          records-length member-bytes member-size (λ m. refl) ms,
           t .whole,
         )
 
@@ -126,7 +125,7 @@ head-reads-back places room t ms bs f p q r = record {
 }
 
 -- bytes that are not empty
-first : (bs : List ℕ) → 1 ≤ length bs → bs ≡ getD bs 0 0 ∷ drop 1 bs
+first : (bs : List ℕ) → 1 ≤ length bs → bs ≡ getD bs 0 0 ∷ drop table-at bs
 first [] h = absurd (omega arith)
 first (b ∷ bs) h = refl
 
@@ -138,36 +137,35 @@ module _ (bs : List ℕ) (h : Head) (p : Bytes bs) (a : Accepted bs h) where
   part-bytes : (i : ℕ) → Bytes (drop i bs)
   part-bytes i = all-drop (λ b. b < 256) i bs p
 
-  one-weight : (i : ℕ) → i < ages → number-bytes (into most-weight (weight-at bs i)) ++ drop 4 (drop (4 * i) (drop 1 bs)) ≡ drop (4 * i) (drop 1 bs)
+  one-weight : (i : ℕ) → i < ages → number-bytes (into most-weight (weight-at bs i)) ++ drop weight-size (drop (weight-size * i) (drop table-at bs)) ≡ drop (weight-size * i) (drop table-at bs)
   one-weight i l =
-      let there = drop-drop (4 * i) 1 bs in
+      let there = drop-drop (weight-size * i) table-at bs in
       rw there
-      (ap (λ w. number-bytes w ++ drop 4 (drop (1 + 4 * i) bs)) (sym (fair-same most-weight (weight-at bs i) (passes _ ages (a .weights) i l)))
-      ∙ number-read (drop (1 + 4 * i) bs) (part-bytes (1 + 4 * i)) (omega (arith, length-drop (1 + 4 * i) bs, a .long)))
+      (ap (λ w. number-bytes w ++ drop weight-size (drop (table-at + weight-size * i) bs)) (sym (fair-same most-weight (weight-at bs i) (passes _ ages (a .weights) i l)))
+      ∙ number-read (drop (table-at + weight-size * i) bs) (part-bytes (table-at + weight-size * i)) (omega (arith, length-drop (table-at + weight-size * i) bs, a .long)))
 
-  table-bytes : joined number-bytes (weights-of bs) ++ drop 285 bs ≡ drop 1 bs
+  table-bytes : joined number-bytes (weights-of bs) ++ drop members-at bs ≡ drop table-at bs
   unfolding weights-of
-  table-bytes = ap (λ l. joined number-bytes (weights-of bs) ++ l) (sym (drop-drop 284 1 bs)) ∙ records-read number-bytes 4 (λ i. into most-weight (weight-at bs i)) (drop 1 bs) ages one-weight
+  table-bytes = ap (λ l. joined number-bytes (weights-of bs) ++ l) (sym (drop-drop (weight-size * ages) table-at bs)) ∙ records-read number-bytes weight-size (λ i. into most-weight (weight-at bs i)) (drop table-at bs) ages one-weight
 
-  one-member : (i : ℕ) → i < n → member-bytes (member-at bs i) ++ drop 5 (drop (5 * i) (drop 285 bs)) ≡ drop (5 * i) (drop 285 bs)
+  one-member : (i : ℕ) → i < n → member-bytes (member-at bs i) ++ drop member-size (drop (member-size * i) (drop members-at bs)) ≡ drop (member-size * i) (drop members-at bs)
   one-member i l =
-      let there = drop-drop (5 * i) 285 bs in
-      let at = 285 + 5 * i in
-      let next : at + 1 ≡ 286 + 5 * i = omega arith in
+      let there = drop-drop (member-size * i) members-at bs in
+      let at = head-length i in
       let long = length-drop at bs in
-      let stake : drop 1 (drop at bs) ≡ drop (286 + 5 * i) bs = drop-drop 1 at bs ∙ ap (λ k. drop k bs) next in
+      let stake : drop 1 (drop at bs) ≡ drop (at + 1) bs = drop-drop 1 at bs in
       let zero-on : at + 0 ≡ at = omega arith in
       let age : getD (drop at bs) 0 0 ≡ age-at bs i = getD-drop at bs 0 0 ∙ ap (λ k. getD bs k 0) zero-on in
       rw there
-      (ap (λ s. age-at bs i ∷ number-bytes s ++ drop 5 (drop at bs)) (sym (fair-same most-stake (stake-at bs i) (passes _ n (a .staked) i l)))
+      (ap (λ s. age-at bs i ∷ number-bytes s ++ drop member-size (drop at bs)) (sym (fair-same most-stake (stake-at bs i) (passes _ n (a .staked) i l)))
       ∙ ap (λ l. age-at bs i ∷ number-bytes (stake-at bs i) ++ l) (sym (drop-drop 4 1 (drop at bs)) ∙ ap (drop 4) stake)
-      ∙ ap (λ l. age-at bs i ∷ l) (number-read (drop (286 + 5 * i) bs) (part-bytes (286 + 5 * i)) (omega (arith, length-drop (286 + 5 * i) bs, a .long)) ∙ sym stake)
+      ∙ ap (λ l. age-at bs i ∷ l) (number-read (drop (at + 1) bs) (part-bytes (at + 1)) (omega (arith, length-drop (at + 1) bs, a .long)) ∙ sym stake)
       ∙ ap (λ b. b ∷ drop 1 (drop at bs)) (sym age)
       ∙ sym (first (drop at bs) (omega (arith, a .long))))
 
-  people-bytes : joined member-bytes (members-of bs) ++ after-head bs ≡ drop 285 bs
+  people-bytes : joined member-bytes (members-of bs) ++ after-head bs ≡ drop members-at bs
   unfolding members-of
-  people-bytes = ap (λ l. joined member-bytes (members-of bs) ++ l) (sym (drop-drop (5 * n) 285 bs)) ∙ records-read member-bytes 5 (member-at bs) (drop 285 bs) n one-member
+  people-bytes = ap (λ l. joined member-bytes (members-of bs) ++ l) (sym (drop-drop (member-size * n) members-at bs)) ∙ records-read member-bytes member-size (member-at bs) (drop members-at bs) n one-member
 
   count-back : length (members-of bs) ≡ n
   unfolding members-of
@@ -182,7 +180,7 @@ module _ (bs : List ℕ) (h : Head) (p : Bytes bs) (a : Accepted bs h) where
 
   new-member : (i : ℕ) → i < n → Newcomer (table-of bs) i (member-at bs i)
   new-member i l =
-      let w = table-of bs .weighs (age-at bs i - 40) in
+      let w = table-of bs .weighs (age-at bs i - first-age) in
       record { number = refl; aged = passes _ n (a .aged) i l; weighed = sym (into-same most-weight _ (w .0) (w .1)); unpaid = refl; lives = refl }
 
   founders : Founders (h .table) (members-of bs)

@@ -17,7 +17,7 @@ use Rattle.std.specs.declared.option.Option.the-variants.{Some, None}
 use Rattle.std.specs.declared.result.Result.{Result}
 use Rattle.std.specs.declared.result.Result.the-variants.{Ok, Err}
 use Rattle.members.specs.Bytes.{number, weight-for}
-use Rattle.members.specs.Limits.{Weight, most-members, most-weight, ages, into, fair-weight, fair-age, fair-stake, fair-count}
+use Rattle.members.specs.Limits.{Weight, most-members, most-weight, ages, table-at, weight-size, members-at, member-size, into, fair-weight, fair-age, fair-stake, fair-count}
 use Rattle.members.specs.Lines.{line-count}
 use Rattle.members.specs.Members.{newcomer}
 use Rattle.members.specs.declared.head.Head.{Head}
@@ -33,9 +33,9 @@ use Rattle.members.specs.declared.table.Table.{Table}
 abbrev pub announced : List ℕ → ℕ
 announced bs = getD bs 0 0
 
--- the bytes of a head of n members: one, 71 weights of four, and five for each member
+-- how many bytes a head of n members has
 abbrev pub head-length : ℕ → ℕ
-head-length n = 285 + 5 * n
+head-length n = members-at + member-size * n
 
 -- the bytes after the head, where the lines begin
 abbrev pub after-head : List ℕ → List ℕ
@@ -43,15 +43,15 @@ after-head bs = drop (head-length (announced bs)) bs
 
 -- the weight that stands at an index of the table
 abbrev pub weight-at : List ℕ → ℕ → ℕ
-weight-at bs i = number (drop (1 + 4 * i) bs)
+weight-at bs i = number (drop (table-at + weight-size * i) bs)
 
--- the age of the i-th member
+-- the age of the i-th member, which stands after a head of those before it
 abbrev pub age-at : List ℕ → ℕ → ℕ
-age-at bs i = getD bs (285 + 5 * i) 0
+age-at bs i = getD bs (head-length i) 0
 
--- the stake of the i-th member
+-- the stake of the i-th member, after its age
 abbrev pub stake-at : List ℕ → ℕ → ℕ
-stake-at bs i = number (drop (286 + 5 * i) bs)
+stake-at bs i = number (drop (head-length i + 1) bs)
 
 -- the weights of the table. A table's bounds are part of it, so what is out of them is brought in; no book with such is accepted
 unfoldable pub weights-of : List ℕ → List ℕ
@@ -103,7 +103,7 @@ bad-stake bs n = first-bad (λ i. fair-stake (stake-at bs i)) n
 abbrev pub checked : {A : Type 0} → ℕ → ℕ → (ℕ → Refusal) → A → Result A Refusal
 checked bad n why x = cond (ltb bad n) (Err (why bad)) (Ok x)
 
--- the book has n members at most, all in order, and the table is the book's
+-- the first n members of a book are in order, and the table is the book's
 pub record Known (bs : List ℕ) (t : Table) (n : ℕ) : Type 0 where
   pub few : n ≤ most-members
   pub long : head-length n ≤ length bs

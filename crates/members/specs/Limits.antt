@@ -1,6 +1,6 @@
 -- The bounds of a society, as facts and as tests. Assumes nothing.
 use mathlib.Core.Bool.{Bool, _&&_}
-use Prim.Native.Nat.{ℕ, _≤_, min, max}
+use Prim.Native.Nat.{ℕ, _+_, _*_, _≤_, min, max}
 use lib.Dec.{leb}
 
 -- a society has 1 to this many members
@@ -26,6 +26,22 @@ last-age = 110
 -- how many ages there are
 abbrev pub ages : ℕ
 ages = 71
+
+-- where the table stands in a book: after the byte that counts the members
+abbrev pub table-at : ℕ
+table-at = 1
+
+-- the bytes of a weight
+abbrev pub weight-size : ℕ
+weight-size = 4
+
+-- where the members stand: after the table
+abbrev pub members-at : ℕ
+members-at = table-at + weight-size * ages
+
+-- the bytes of a member: one of age and four of stake
+abbrev pub member-size : ℕ
+member-size = 5
 
 -- w can be a weight
 abbrev pub Weight : ℕ → Type 0

@@ -129,7 +129,7 @@ fn announced_count(book: &[u8]) -> usize
 
 // The table, each of its weights read and checked.
 fn read_table(book: &[u8]) -> Result<Table, Refusal>
-    requires { ⌜ 285 ≤ length (now book) ⌝ }
+    requires { ⌜ head-length 0 ≤ length (now book) ⌝ }
     ensures { λ r. ⌜ r ≡ checked (bad-weight (now (book .entry))) ages refusal.Table (table-of (now (book .entry))) ⌝ }
 {
     let mut weights = [1; AGES];
@@ -146,7 +146,7 @@ fn read_table(book: &[u8]) -> Result<Table, Refusal>
     Ok(Table { weights })
 }
 
-// That each of the first members has an age that the table has.
+// Whether each of the first members has an age that the table has.
 fn check_ages(book: &[u8], count: usize) -> Result<(), Refusal>
     requires { ⌜ head-length count ≤ length (now book) ⌝ }
     ensures { λ r. ⌜ r ≡ checked (bad-age (now (book .entry)) count) count refusal.Age tt ⌝ }
@@ -159,7 +159,7 @@ fn check_ages(book: &[u8], count: usize) -> Result<(), Refusal>
     Ok(())
 }
 
-// That each of the first members has a stake within the bounds.
+// Whether each of the first members has a stake within the bounds.
 fn check_stakes(book: &[u8], count: usize) -> Result<(), Refusal>
     requires { ⌜ head-length count ≤ length (now book) ⌝ }
     ensures { λ r. ⌜ r ≡ checked (bad-stake (now (book .entry)) count) count refusal.Stake tt ⌝ }
@@ -200,7 +200,7 @@ fn seat(book: &[u8], table: &Table, members: &mut [Member], count: usize)
     }
 }
 
-// A member, of a book that is known to be in order.
+// One of the first members, which are known to be in order.
 fn read_member(book: &[u8], table: &Table, number: usize, count: usize) -> Member
     requires known { ⌜ Known (now book) (now table) count ⌝ }
     requires inside { ⌜ number < count ⌝ }

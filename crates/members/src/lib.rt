@@ -3,7 +3,6 @@ mod head;
 mod limits;
 mod line;
 mod member;
-mod people;
 mod refusal;
 mod table;
 #[cfg(test)]

@@ -27,7 +27,7 @@ pub const TABLE_AT: usize = 1;
 pub const WEIGHT_BYTES: usize = 4;
 
 // The members stand after the table, each with a byte of age and four of stake.
-pub const MEMBERS_AT: usize = 285;
+pub const MEMBERS_AT: usize = TABLE_AT + WEIGHT_BYTES * AGES;
 
 pub const MEMBER_BYTES: usize = 5;
 

@@ -1,6 +1,8 @@
 // A member of the society. Its methods stand in another file, since definitions that speak of a member cannot be cited here.
 ghost use Rattle.members.specs.Limits.{Weight, Stake};
 
+mod methods;
+
 #[derive(Clone, Copy, PartialEq, Eq, Debug)]
 pub struct Member {
     pub number: u8,

@@ -64,24 +64,37 @@ fn counts(rt: LibcRuntime) -> Result<(), Fail> {
     check_eq(answer(sample(heap, 255)?.as_slice()), Err((1, 0)))
 }
 
-// Each bound and its neighbour, at the first and at the last entry.
-#[test]
-fn weights(rt: LibcRuntime) -> Result<(), Fail> {
-    for index in [0usize, 70] {
-        let cases = [
-            ([0, 0, 0, 0], Err((2, index))),
-            ([1, 0, 0, 0], Ok(3)),
-            ([160, 134, 1, 0], Ok(3)),
-            ([161, 134, 1, 0], Err((2, index))),
-            ([255, 255, 255, 255], Err((2, index))),
-        ];
-        for (bytes, expected) in cases {
-            let mut book = sample(rt.alloc(), 3)?;
-            put(&mut book, 1 + 4 * index, &bytes)?;
-            check_eq(answer(book.as_slice()), expected)?;
-        }
+// A number of the book at its bounds, just outside them and at its largest; `refused` is what is said of those outside.
+fn bounds(
+    heap: Global,
+    at: usize,
+    most: u32,
+    above: u32,
+    refused: (u8, usize),
+) -> Result<(), Fail> {
+    let cases = [
+        (0, Err(refused)),
+        (1, Ok(3)),
+        (most, Ok(3)),
+        (above, Err(refused)),
+        (u32::MAX, Err(refused)),
+    ];
+    for (n, expected) in cases {
+        let mut book = sample(heap, 3)?;
+        put(&mut book, at, &n.to_le_bytes())?;
+        check_eq(answer(book.as_slice()), expected)?;
     }
     Ok(())
+}
+
+// The first weight and the last, the first member's stake and the last's.
+#[test]
+fn numbers(rt: LibcRuntime) -> Result<(), Fail> {
+    let heap = rt.alloc();
+    bounds(heap, 1, 100_000, 100_001, (2, 0))?;
+    bounds(heap, 281, 100_000, 100_001, (2, 70))?;
+    bounds(heap, 286, 100_000_000, 100_000_001, (4, 0))?;
+    bounds(heap, 296, 100_000_000, 100_000_001, (4, 2))
 }
 
 #[test]
@@ -98,25 +111,6 @@ fn ages(rt: LibcRuntime) -> Result<(), Fail> {
         for (age, expected) in cases {
             let mut book = sample(rt.alloc(), 3)?;
             put(&mut book, 285 + 5 * member, &[age])?;
-            check_eq(answer(book.as_slice()), expected)?;
-        }
-    }
-    Ok(())
-}
-
-#[test]
-fn stakes(rt: LibcRuntime) -> Result<(), Fail> {
-    for member in [0usize, 2] {
-        let cases = [
-            ([0, 0, 0, 0], Err((4, member))),
-            ([1, 0, 0, 0], Ok(3)),
-            ([0, 225, 245, 5], Ok(3)),
-            ([1, 225, 245, 5], Err((4, member))),
-            ([255, 255, 255, 255], Err((4, member))),
-        ];
-        for (bytes, expected) in cases {
-            let mut book = sample(rt.alloc(), 3)?;
-            put(&mut book, 286 + 5 * member, &bytes)?;
             check_eq(answer(book.as_slice()), expected)?;
         }
     }

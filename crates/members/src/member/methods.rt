@@ -5,10 +5,10 @@ ghost use Prim.Native.Nat.{_*_, _<_, _^_};
 ghost use Rattle.std.specs.declared.option.Option.the-variants.{Some, None};
 ghost use Rattle.members.specs.Limits.{Weight, Stake, fair-weight, fair-stake};
 ghost use Rattle.members.specs.Members.{newcomer, nobody};
+use super::Member;
 use crate::limits::MOST_STAKE;
 use crate::limits::MOST_WEIGHT;
 use crate::limits::bounded;
-use crate::member::Member;
 
 impl Member {
     // What stands in a place of lent memory that no member has taken.
@@ -34,6 +34,7 @@ impl Member {
         Some(Member::joining(number, age, weight as u32, stake))
     }
 
+    // The same where the bounds are known.
     pub(crate) fn joining(number: u8, age: u8, weight: u32, stake: u64) -> Member
         requires weighs { ⌜ Weight weight ⌝ }
         requires staked { ⌜ Stake stake ⌝ }
