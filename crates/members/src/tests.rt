@@ -1,15 +1,7 @@
 // The edges of the format, run.
-use crate::head::Room;
-use crate::head::lines_part;
-use crate::head::read_head;
-use crate::line::Line;
-use crate::line::count_lines;
-use crate::line::read_line;
+use crate::head::*;
 use crate::line::*;
-use crate::member::Member;
 use crate::member::*;
-use crate::refusal::Memory;
-use crate::refusal::Refusal;
 use crate::refusal::*;
 use std::alloc::AllocError;
 use std::alloc::Global;
