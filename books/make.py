@@ -6,7 +6,6 @@ lines. All numbers have their low byte first. docs/RULES.md has the whole format
 """
 import os
 
-FIRST_AGE = 40
 AGES = 71
 
 
@@ -23,9 +22,8 @@ def table():
     return weights
 
 
-def head(members, weights=None, count=None):
-    count = len(members) if count is None else count
-    book = bytes([count]) + b"".join(number(w) for w in weights or table())
+def head(members, weights=None):
+    book = bytes([len(members)]) + b"".join(number(w) for w in weights or table())
     return book + b"".join(bytes([age]) + number(stake) for age, stake in members)
 
 
