@@ -1,19 +1,16 @@
 -- A loop that checks one number after the other and stops at the first that fails. Assumes nothing.
-use mathlib.Core.Path.{_≡_, refl, sym, ap, subst, _∙_}
+use mathlib.Core.Path.{_≡_, refl, sym, ap, _∙_}
 use mathlib.Core.Bool.{Bool, true, false, cond}
 use mathlib.Core.List.{List, [], _∷_}
 use Prim.Native.Nat.{ℕ, zero, suc, _+_, _≤_, _<_}
 use native.Mathlib.Omega.{arith}
-use lib.Dec.{ltb}
 use lib.ListN.{length, getD, drop}
 use Rattle.std.specs.Iters.{counting}
 use Rattle.std.specs.shelf.Lists.{leading}
 use Rattle.std.proofs.shelf.Counted.{length-counting, getD-counting}
-use Rattle.std.proofs.shelf.Sums.{leading-drop-yes, leading-drop-no, leading-drop-all, leading-le-length}
+use Rattle.std.proofs.shelf.Sums.{leading-drop-yes, leading-drop-no, leading-drop-all}
 use Rattle.std.proofs.shelf.Tests.{cond-below, cond-above, cases-bool}
-use Rattle.std.specs.declared.option.Option.{Option}
 use Rattle.std.specs.declared.option.Option.the-variants.{Some, None}
-use Rattle.std.specs.declared.result.Result.{Result}
 use Rattle.std.specs.declared.result.Result.the-variants.{Ok, Err}
 use Rattle.members.specs.Heads.{first-bad, checked}
 use Rattle.members.specs.declared.refusal.Refusal.{Refusal}

@@ -1,36 +1,28 @@
 -- Reading a head is the inverse of writing it. Assumes nothing.
 use mathlib.Core.Path.{_≡_, refl, sym, ap, subst, _∙_}
-use mathlib.Core.Bool.{Bool, true, false, cond, not}
-use mathlib.Core.List.{List, [], _∷_, _++_, map}
-use Prim.Native.Nat.{ℕ, zero, suc, _+_, _-_, _*_, _^_, _≤_, _<_}
+use mathlib.Core.List.{List, [], _∷_, _++_}
+use Prim.Native.Nat.{ℕ, _+_, _-_, _*_, _≤_, _<_}
 use native.Mathlib.Omega.{arith}
-use lib.Dec.{ltb, leb}
 use lib.ListN.{length, getD, drop}
 use lib.Seq.{getD-drop}
-use Rattle.std.specs.Iters.{counting}
 use Rattle.std.specs.shelf.Lists.{joined}
 use Rattle.std.proofs.shelf.Counted.{fill-by-all, length-map-counting, getD-map-counting}
 use Rattle.std.proofs.shelf.Elements.{all-drop}
-use Rattle.std.proofs.shelf.Lists.{append-assoc, length-append, drop-drop, drop-at, drop-all, length-drop, drop-more}
-use Rattle.std.proofs.shelf.Tests.{le-leb, le-ltb}
-use Rattle.std.proofs.shelf.Ways.{tells}
-use Rattle.std.specs.declared.option.Option.the-variants.{Some, None}
-use Rattle.std.specs.declared.result.Result.{Result}
-use Rattle.std.specs.declared.result.Result.the-variants.{Ok, Err}
-use Rattle.members.specs.Bytes.{Bytes, number, number-bytes, weight-for}
-use Rattle.members.specs.Heads.{announced, head-length, after-head, weight-at, age-at, stake-at, weights-of, table-of, member-at, members-of, first-bad, bad-weight, bad-age, bad-stake, body-of, head-of, lacking, answer}
-use Rattle.members.specs.Limits.{Weight, Stake, most-weight, most-stake, most-members, first-age, ages, table-at, weight-size, members-at, member-size, fair-weight, fair-age, fair-stake, from-to, into}
+use Rattle.std.proofs.shelf.Lists.{append-assoc, length-append, drop-drop, drop-all, length-drop}
+use Rattle.std.specs.declared.result.Result.the-variants.{Ok}
+use Rattle.members.specs.Bytes.{Bytes, number-in, number-bytes, weight-for}
+use Rattle.members.specs.Heads.{announced, head-length, after-head, weight-at, age-at, stake-at, weights-of, table-of, member-at, members-of, bad-weight, bad-age, bad-stake, head-of}
+use Rattle.members.specs.Limits.{most-weight, most-stake, most-members, first-age, ages, table-at, weight-size, members-at, member-size, good-weight, good-age, good-stake, clamped}
 use Rattle.members.specs.Lines.{line-count}
-use Rattle.members.specs.Members.{newcomer, nobody}
-use Rattle.members.specs.Written.{member-bytes, head-bytes, Newcomer, Founders, Reads, Head-reads-back, Book-of, Head-is-its-bytes, lines-bytes, Meaning, meaning-of, Accepts, One-book-one-meaning}
+use Rattle.members.specs.Members.{nobody}
+use Rattle.members.specs.Written.{member-bytes, head-bytes, Founder, Founders, Head-reads-back, Head-is-its-bytes, lines-bytes, Meaning, meaning-of, Accepts, One-book-one-meaning}
 use Rattle.members.specs.declared.head.Head.{Head}
-use Rattle.members.specs.declared.head.Room.{Room}
 use Rattle.members.specs.declared.member.Member.{Member}
 use Rattle.members.specs.declared.table.Table.{Table}
-use Rattle.members.proofs.Bounds.{into-same, within-fair, fair-same}
+use Rattle.members.proofs.Bounds.{clamped-same, within-good, good-same}
 use Rattle.members.proofs.Checks.{passes, none-fails}
 use Rattle.members.proofs.Heads.{Accepted, accepted, accepts, answered, from-answer, full-room}
-use Rattle.members.proofs.Numbers.{number-written, number-read, byte-at}
+use Rattle.members.proofs.Numbers.{number-written, number-read}
 use Rattle.members.proofs.Records.{records-length, after-records, at-record, records-read}
 use Rattle.members.proofs.Same.{same-member, same-table}
 use Rattle.members.proofs.Written.{lines-are-their-bytes}
@@ -56,7 +48,7 @@ module _ (t : Table) (ms : List Member) (bs : List ℕ) where
 
   weight-back : (i : ℕ) → i < ages → weight-at book i ≡ getD (t .weights) i 1
   weight-back i h =
-      ap number (in-table i ∙ at-record number-bytes weight-size (λ n. refl) (t .weights) people i 1 (omega (arith, t .whole)))
+      ap number-in (in-table i ∙ at-record number-bytes weight-size (λ n. refl) (t .weights) people i 1 (omega (arith, t .whole)))
       ∙ number-written (getD (t .weights) i 1) (joined number-bytes (drop (i + 1) (t .weights)) ++ people) (omega (arith, t .weighs i .1))
 
   person : (i : ℕ) → i < length ms → drop (head-length i) book ≡ member-bytes (getD ms i nobody) ++ (joined member-bytes (drop (i + 1) ms) ++ bs)
@@ -67,13 +59,13 @@ module _ (t : Table) (ms : List Member) (bs : List ℕ) where
 
   stake-back : (i : ℕ) → i < length ms → stake-at book i ≡ getD ms i nobody .stake
   stake-back i h =
-      ap number (sym (drop-drop 1 (head-length i) book) ∙ ap (drop 1) (person i h))
+      ap number-in (sym (drop-drop 1 (head-length i) book) ∙ ap (drop 1) (person i h))
       ∙ number-written (getD ms i nobody .stake) (joined member-bytes (drop (i + 1) ms) ++ bs) (omega (arith, getD ms i nobody .staked .1))
 
   weights-back : weights-of book ≡ t .weights
   unfolding weights-of
   weights-back =
-      sym (fill-by-all (λ i. into most-weight (weight-at book i)) (t .weights) ages 1 (t .whole) (λ i h. into-same most-weight _ (t .weighs i .0) (t .weighs i .1) ∙ ap (into most-weight) (sym (weight-back i h))))
+      sym (fill-by-all (λ i. clamped most-weight (weight-at book i)) (t .weights) ages 1 (t .whole) (λ i h. clamped-same most-weight _ (t .weighs i .0) (t .weighs i .1) ∙ ap (clamped most-weight) (sym (weight-back i h))))
 
   lines-back : after-head book ≡ bs
   lines-back = in-people (length ms) ∙ after-records member-bytes member-size (λ m. refl) ms bs (length ms) (omega arith) ∙ ap (λ l. joined member-bytes l ++ bs) (drop-all (length ms) ms (omega arith))
@@ -84,21 +76,21 @@ module _ (t : Table) (ms : List Member) (bs : List ℕ) where
         let m = getD ms i nobody in
         let new = f .each i h in
         same-member m (member-at book i) (new .number) (sym (age-back i h))
-        (into-same most-weight _ (m .weighs .0) (m .weighs .1) ∙ ap (into most-weight) (new .weighed ∙ ap (λ a. weight-for (t .weights) a) (sym (age-back i h)) ∙ ap (λ ws. weight-for ws (age-at book i)) (sym weights-back)))
-        (into-same most-stake _ (m .staked .0) (m .staked .1) ∙ ap (into most-stake) (sym (stake-back i h))) (new .unpaid) (new .lives)
+        (clamped-same most-weight _ (m .weighs .0) (m .weighs .1) ∙ ap (clamped most-weight) (new .weighed ∙ ap (λ a. weight-for (t .weights) a) (sym (age-back i h)) ∙ ap (λ ws. weight-for ws (age-at book i)) (sym weights-back)))
+        (clamped-same most-stake _ (m .staked .0) (m .staked .1) ∙ ap (clamped most-stake) (sym (stake-back i h))) (new .unpaid) (new .lives)
 
     members-back : members-of book ≡ ms
     unfolding members-of
     members-back = sym (fill-by-all (member-at book) ms (length ms) nobody refl member-back)
 
     none-bad-weight : bad-weight book ≡ ages
-    none-bad-weight = none-fails _ ages (λ i h. ap fair-weight (weight-back i h) ∙ within-fair 1 most-weight _ (t .weighs i .0) (t .weighs i .1))
+    none-bad-weight = none-fails _ ages (λ i h. ap good-weight (weight-back i h) ∙ within-good 1 most-weight _ (t .weighs i .0) (t .weighs i .1))
 
     none-bad-age : bad-age book (length ms) ≡ length ms
-    none-bad-age = none-fails _ (length ms) (λ i h. ap fair-age (age-back i h) ∙ f .each i h .aged)
+    none-bad-age = none-fails _ (length ms) (λ i h. ap good-age (age-back i h) ∙ f .each i h .aged)
 
     none-bad-stake : bad-stake book (length ms) ≡ length ms
-    none-bad-stake = none-fails _ (length ms) (λ i h. ap fair-stake (stake-back i h) ∙ within-fair 1 most-stake _ (getD ms i nobody .staked .0) (getD ms i nobody .staked .1))
+    none-bad-stake = none-fails _ (length ms) (λ i h. ap good-stake (stake-back i h) ∙ within-good 1 most-stake _ (getD ms i nobody .staked .0) (getD ms i nobody .staked .1))
 
     long-enough : head-length (length ms) ≤ length book
     long-enough =
@@ -114,7 +106,7 @@ module _ (t : Table) (ms : List Member) (bs : List ℕ) where
 
     head-back : head-of book ≡ Ok (record { count = length ms; table = t })
     head-back =
-        accepts book (within-fair 1 most-members (length ms) (f .some) (f .few)) long-enough none-bad-weight none-bad-age none-bad-stake
+        accepts book (within-good 1 most-members (length ms) (f .some) (f .few)) long-enough none-bad-weight none-bad-age none-bad-stake
         ∙ ap (λ u. Ok (record { count = length ms; table = u })) (same-table (table-of book) t weights-back)
 
 pub head-reads-back : Head-reads-back
@@ -137,16 +129,16 @@ module _ (bs : List ℕ) (h : Head) (p : Bytes bs) (a : Accepted bs h) where
   part-bytes : (i : ℕ) → Bytes (drop i bs)
   part-bytes i = all-drop (λ b. b < 256) i bs p
 
-  one-weight : (i : ℕ) → i < ages → number-bytes (into most-weight (weight-at bs i)) ++ drop weight-size (drop (weight-size * i) (drop table-at bs)) ≡ drop (weight-size * i) (drop table-at bs)
+  one-weight : (i : ℕ) → i < ages → number-bytes (clamped most-weight (weight-at bs i)) ++ drop weight-size (drop (weight-size * i) (drop table-at bs)) ≡ drop (weight-size * i) (drop table-at bs)
   one-weight i l =
       let there = drop-drop (weight-size * i) table-at bs in
       rw there
-      (ap (λ w. number-bytes w ++ drop weight-size (drop (table-at + weight-size * i) bs)) (sym (fair-same most-weight (weight-at bs i) (passes _ ages (a .weights) i l)))
+      (ap (λ w. number-bytes w ++ drop weight-size (drop (table-at + weight-size * i) bs)) (sym (good-same most-weight (weight-at bs i) (passes _ ages (a .weights) i l)))
       ∙ number-read (drop (table-at + weight-size * i) bs) (part-bytes (table-at + weight-size * i)) (omega (arith, length-drop (table-at + weight-size * i) bs, a .long)))
 
   table-bytes : joined number-bytes (weights-of bs) ++ drop members-at bs ≡ drop table-at bs
   unfolding weights-of
-  table-bytes = ap (λ l. joined number-bytes (weights-of bs) ++ l) (sym (drop-drop (weight-size * ages) table-at bs)) ∙ records-read number-bytes weight-size (λ i. into most-weight (weight-at bs i)) (drop table-at bs) ages one-weight
+  table-bytes = ap (λ l. joined number-bytes (weights-of bs) ++ l) (sym (drop-drop (weight-size * ages) table-at bs)) ∙ records-read number-bytes weight-size (λ i. clamped most-weight (weight-at bs i)) (drop table-at bs) ages one-weight
 
   one-member : (i : ℕ) → i < n → member-bytes (member-at bs i) ++ drop member-size (drop (member-size * i) (drop members-at bs)) ≡ drop (member-size * i) (drop members-at bs)
   one-member i l =
@@ -157,7 +149,7 @@ module _ (bs : List ℕ) (h : Head) (p : Bytes bs) (a : Accepted bs h) where
       let zero-on : at + 0 ≡ at = omega arith in
       let age : getD (drop at bs) 0 0 ≡ age-at bs i = getD-drop at bs 0 0 ∙ ap (λ k. getD bs k 0) zero-on in
       rw there
-      (ap (λ s. age-at bs i ∷ number-bytes s ++ drop member-size (drop at bs)) (sym (fair-same most-stake (stake-at bs i) (passes _ n (a .staked) i l)))
+      (ap (λ s. age-at bs i ∷ number-bytes s ++ drop member-size (drop at bs)) (sym (good-same most-stake (stake-at bs i) (passes _ n (a .staked) i l)))
       ∙ ap (λ l. age-at bs i ∷ number-bytes (stake-at bs i) ++ l) (sym (drop-drop 4 1 (drop at bs)) ∙ ap (drop 4) stake)
       ∙ ap (λ l. age-at bs i ∷ l) (number-read (drop (at + 1) bs) (part-bytes (at + 1)) (omega (arith, length-drop (at + 1) bs, a .long)) ∙ sym stake)
       ∙ ap (λ b. b ∷ drop 1 (drop at bs)) (sym age)
@@ -178,10 +170,10 @@ module _ (bs : List ℕ) (h : Head) (p : Bytes bs) (a : Accepted bs h) where
       ∙ ap (λ k. k ∷ (joined number-bytes (weights-of bs) ++ joined member-bytes (members-of bs) ++ after-head bs)) (sym count-back)
       ∙ ap (λ x. head-bytes (x .table) (members-of bs) ++ after-head bs) (sym (a .is))
 
-  new-member : (i : ℕ) → i < n → Newcomer (table-of bs) i (member-at bs i)
+  new-member : (i : ℕ) → i < n → Founder (table-of bs) i (member-at bs i)
   new-member i l =
       let w = table-of bs .weighs (age-at bs i - first-age) in
-      record { number = refl; aged = passes _ n (a .aged) i l; weighed = sym (into-same most-weight _ (w .0) (w .1)); unpaid = refl; lives = refl }
+      record { number = refl; aged = passes _ n (a .aged) i l; weighed = sym (clamped-same most-weight _ (w .0) (w .1)); unpaid = refl; lives = refl }
 
   founders : Founders (h .table) (members-of bs)
   unfolding members-of
@@ -190,7 +182,7 @@ module _ (bs : List ℕ) (h : Head) (p : Bytes bs) (a : Accepted bs h) where
       subst (λ x. Founders (x .table) (members-of bs)) (sym (a .is)) (record {
         some = omega (arith, a .some);
         few = omega (arith, a .few);
-        each = λ i l. subst (Newcomer (table-of bs) i) (sym (getD-map-counting (member-at bs) 0 n i i nobody (omega arith) (omega arith))) (new-member i (omega arith));
+        each = λ i l. subst (Founder (table-of bs) i) (sym (getD-map-counting (member-at bs) 0 n i i nobody (omega arith) (omega arith))) (new-member i (omega arith));
       })
 
 pub head-is-its-bytes : Head-is-its-bytes

@@ -1,6 +1,6 @@
 -- What is known of a head that was accepted. Assumes nothing.
-use mathlib.Core.Path.{_≡_, refl, sym, ap, subst, _∙_}
-use mathlib.Core.Bool.{Bool, true, false, cond, not}
+use mathlib.Core.Path.{_≡_, refl, sym, ap, _∙_}
+use mathlib.Core.Bool.{Bool, true, false, cond}
 use mathlib.Core.List.{List, _++_, map}
 use Prim.Native.Nat.{ℕ, _≤_, _<_}
 use native.Mathlib.Omega.{arith}
@@ -14,15 +14,15 @@ use Rattle.std.specs.declared.option.Option.{Option}
 use Rattle.std.specs.declared.option.Option.the-variants.{Some, None}
 use Rattle.std.specs.declared.result.Result.{Result}
 use Rattle.std.specs.declared.result.Result.the-variants.{Ok, Err}
-use Rattle.members.specs.Limits.{most-members, ages, fair-count}
-use Rattle.members.specs.Heads.{announced, head-length, after-head, table-of, first-bad, bad-weight, bad-age, bad-stake, Known, body-of, head-of, lacking, unless-lacking, answer, seated, member-at, members-of}
+use Rattle.members.specs.Limits.{most-members, ages, good-count}
+use Rattle.members.specs.Heads.{announced, head-length, after-head, table-of, first-bad, bad-weight, bad-age, bad-stake, Known, head-of, lacking, unless-lacking, answer, seated, member-at, members-of}
 use Rattle.members.specs.Lines.{line-count}
 use Rattle.members.specs.declared.head.Head.{Head}
 use Rattle.members.specs.declared.head.Room.{Room}
 use Rattle.members.specs.declared.member.Member.{Member}
 use Rattle.members.specs.declared.refusal.Memory.{Memory}
 use Rattle.members.specs.declared.refusal.Refusal.{Refusal}
-use Rattle.members.proofs.Bounds.{fair-within}
+use Rattle.members.proofs.Bounds.{good-within}
 use Rattle.members.proofs.Checks.{passes}
 
 -- a check that was passed
@@ -54,7 +54,7 @@ accepted bs h e =
     let c = past _ _ _ h (b .1) in
     let d = past _ _ _ h (c .1) in
     let f = past _ _ _ h (d .1) in
-    let fair = fair-within 1 most-members n (not-false _ (a .0)) in
+    let fair = good-within 1 most-members n (not-false _ (a .0)) in
     record {
       is = ok-same _ h (sym (f .1));
       some = fair .0;
@@ -66,7 +66,7 @@ accepted bs h e =
     }
 
 -- and the other way round
-pub accepts : (bs : List ℕ) → fair-count (announced bs) ≡ true → head-length (announced bs) ≤ length bs → bad-weight bs ≡ ages → bad-age bs (announced bs) ≡ announced bs → bad-stake bs (announced bs) ≡ announced bs → head-of bs ≡ Ok (record { count = announced bs; table = table-of bs })
+pub accepts : (bs : List ℕ) → good-count (announced bs) ≡ true → head-length (announced bs) ≤ length bs → bad-weight bs ≡ ages → bad-age bs (announced bs) ≡ announced bs → bad-stake bs (announced bs) ≡ announced bs → head-of bs ≡ Ok (record { count = announced bs; table = table-of bs })
 accepts bs fair long weights aged staked =
     cond-false _ _ _ (not-from-true _ fair)
     ∙ cond-false _ _ _ (le-ltb (length bs) (head-length (announced bs)) long)
@@ -75,15 +75,15 @@ accepts bs fair long weights aged staked =
     ∙ cond-false _ _ _ (le-ltb (bad-stake bs (announced bs)) (announced bs) (omega arith))
 
 -- so its members can be seated
-pub known : (bs : List ℕ) (h : Head) → Accepted bs h → Known bs (h .table) (h .count)
-known bs h a =
+pub known : (bs : List ℕ) (h : Head) → Accepted bs h → (i : ℕ) → i < h .count → Known bs (h .table) i
+known bs h a i l =
     let count = ap (λ x. x .count) (a .is) in
     record {
       few = omega (arith, a .few);
       long = omega (arith, a .long);
       table = ap (λ x. x .table) (a .is);
-      aged = λ i l. passes _ _ (a .aged) i (omega arith);
-      staked = λ i l. passes _ _ (a .staked) i (omega arith);
+      aged = passes _ _ (a .aged) i (omega arith);
+      staked = passes _ _ (a .staked) i (omega arith);
     }
 
 -- a memory that is long enough
@@ -98,9 +98,10 @@ module _ (places : ℕ) (room : Room) (bs : List ℕ) (full : lacking places roo
   pub answered : (h : Head) → head-of bs ≡ Ok h → Ok h ≡ answer places room bs
   answered h e = sym (ap (λ o. unless-lacking o (head-of bs)) full ∙ e)
 
-  pub taken : (h : Head) (was after : List Member) → head-of bs ≡ Ok h → after ≡ map (member-at bs) (counting 0 (h .count)) ++ drop (h .count) was → after ≡ seated (answer places room bs) bs was
-  unfolding members-of
-  taken h was after e s = s ∙ ap (λ n. map (member-at bs) (counting 0 n) ++ drop (h .count) was) (ap (λ x. x .count) (accepted bs h e .is)) ∙ ap (λ r. seated r bs was) (answered h e)
+-- the members of an accepted book are in their places
+pub taken : (bs : List ℕ) (h : Head) (was after : List Member) → head-of bs ≡ Ok h → after ≡ map (member-at bs) (counting 0 (h .count)) ++ drop (h .count) was → after ≡ seated (Ok h) bs was
+unfolding members-of
+taken bs h was after e s = s ∙ ap (λ n. map (member-at bs) (counting 0 n) ++ drop (h .count) was) (ap (λ x. x .count) (accepted bs h e .is))
 
 -- an answer that accepts was not for want of memory
 accepting : (o : Option Memory) (r : Result Head Refusal) (h : Head) → unless-lacking o r ≡ Ok h → r ≡ Ok h

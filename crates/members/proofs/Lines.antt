@@ -1,24 +1,21 @@
 -- Lines read from bytes: one at a time, and how many there are. Assumes nothing.
 use mathlib.Core.Path.{_≡_, refl, sym, ap, subst, _∙_}
 use mathlib.Core.Logic.{⊎-elim}
-use mathlib.Core.Bool.{true, false, cond}
-use mathlib.Core.List.{List, [], _∷_, _++_}
+use mathlib.Core.List.{List, [], _∷_}
 use Prim.Native.Nat.{ℕ, zero, suc, _+_, _-_, _≤_, _<_}
 use native.Mathlib.Omega.{arith}
-use lib.Dec.{ltb, eqb}
 use lib.ListN.{length, getD, take, drop, length-drop}
-use Rattle.std.proofs.shelf.Lists.{take-rest, getD-past, nil-from-length}
+use Rattle.std.proofs.shelf.Lists.{take-rest}
 use Rattle.std.proofs.shelf.Tests.{cases-eq, cases-lt}
 use Rattle.std.proofs.shelf.Ways.{tells}
-use Rattle.std.specs.Options.{Cases}
 use Rattle.std.specs.declared.option.Option.{Option}
 use Rattle.std.specs.declared.option.Option.the-variants.{Some, None}
-use Rattle.members.specs.Bytes.{number}
-use Rattle.members.specs.Lines.{line-at, death-at, before, lines-in, text-of, with-rest, line-count}
+use Rattle.members.specs.Bytes.{number-in}
+use Rattle.members.specs.Lines.{line-at, death-at, before, lines-in, text-of, unreadable, line-count}
 use Rattle.members.specs.declared.line.Line.{Line}
 use Rattle.members.specs.declared.line.Line.the-variants.{Death, NewYear, WoundUp}
 
-pub death-whole : (bs : List ℕ) (w : ℕ) → 5 ≤ length bs → w ≡ number (drop 1 bs) → Some (Death (getD bs 0 0) w, take (length bs - 5) (drop 5 bs)) ≡ death-at bs
+pub death-whole : (bs : List ℕ) (w : ℕ) → 5 ≤ length bs → w ≡ number-in (drop 1 bs) → Some (Death (getD bs 0 0) w, take (length bs - 5) (drop 5 bs)) ≡ death-at bs
 unfolding death-at
 death-whole bs w n e = rw (take-rest, e) (grind (arith, tells))
 
@@ -26,7 +23,7 @@ pub death-cut : (bs : List ℕ) → length bs < 5 → None ≡ death-at bs
 unfolding death-at
 death-cut bs n = grind (arith, tells)
 
-pub death-is : (bs : List ℕ) → 5 ≤ length bs → Some (Death (getD bs 0 0) (number (drop 1 bs)), drop 5 bs) ≡ death-at bs
+pub death-is : (bs : List ℕ) → 5 ≤ length bs → Some (Death (getD bs 0 0) (number-in (drop 1 bs)), drop 5 bs) ≡ death-at bs
 unfolding death-at
 death-is bs n = grind (arith, tells)
 
@@ -62,7 +59,7 @@ module _ (bs : List ℕ) where
 -- whatever holds of each way to read a line holds of the line that is read
 pub at-some :
     (P : Line × List ℕ → Type 0) (bs : List ℕ) →
-    (getD bs 0 0 ≡ 1 → 5 ≤ length (drop 1 bs) → P (Death (getD (drop 1 bs) 0 0) (number (drop 1 (drop 1 bs))), drop 5 (drop 1 bs))) →
+    (getD bs 0 0 ≡ 1 → 5 ≤ length (drop 1 bs) → P (Death (getD (drop 1 bs) 0 0) (number-in (drop 1 (drop 1 bs))), drop 5 (drop 1 bs))) →
     (getD bs 0 0 ≡ 2 → P (NewYear, drop 1 bs)) → (getD bs 0 0 ≡ 3 → P (WoundUp, drop 1 bs)) → (x : Line × List ℕ) → line-at bs ≡ Some x → P x
 at-some P bs death year wound x e =
     ⊎-elim
@@ -135,7 +132,7 @@ count-last (b ∷ bs) p e = rw (text-none (b ∷ bs) e)
 
 pub count-more : (bs : List ℕ) (x : Line × List ℕ) → line-at bs ≡ Some x → line-count bs ≡ 1 + line-count (x .1)
 unfolding line-count
-count-more bs x e = ap (λ t. length (t .lines) + with-rest (t .left)) (text-some bs x e) ∙ omega arith
+count-more bs x e = ap (λ t. length (t .lines) + unreadable (t .left)) (text-some bs x e) ∙ omega arith
 
 -- each line has a byte at least
 count-at : (n : ℕ) → ((cs : List ℕ) → length cs ≤ n → line-count cs ≤ length cs) → (bs : List ℕ) → length bs ≤ suc n → (o : Option (Line × List ℕ)) → line-at bs ≡ o → line-count bs ≤ length bs

@@ -1,12 +1,12 @@
 -- Numbers and their bytes. Assumes nothing.
-use mathlib.Core.Path.{_≡_, refl, sym, ap, _∙_}
+use mathlib.Core.Path.{_≡_, sym, ap, _∙_}
 use mathlib.Core.List.{List, [], _∷_, _++_}
-use Prim.Native.Nat.{ℕ, zero, suc, _+_, _-_, _*_, _/_, _%_, _^_, _≤_, _<_}
+use Prim.Native.Nat.{ℕ, zero, suc, _+_, _*_, _/_, _%_, _^_, _≤_, _<_}
 use native.Mathlib.Omega.{arith}
-use lib.ListN.{length, getD, take, drop}
+use lib.ListN.{length, getD, drop}
 use native.Mathlib.Nat.{mod-eq-of-lt}
 use Rattle.std.proofs.shelf.Bits.{shr-shr, div-add-mod', div-below, div-mul-add, mod-mul-add}
-use Rattle.members.specs.Bytes.{Bytes, number, number-bytes}
+use Rattle.members.specs.Bytes.{Bytes, number-in, number-bytes}
 
 -- a quotient by a power of 256, step by step
 quotient-2 : (n : ℕ) → n / 65536 ≡ n / 256 / 256
@@ -16,7 +16,7 @@ quotient-3 : (n : ℕ) → n / 16777216 ≡ n / 65536 / 256
 quotient-3 n = sym (shr-shr n 16 8)
 
 -- what was written is read
-pub number-written : (n : ℕ) (bs : List ℕ) → n < 2 ^ 32 → number (number-bytes n ++ bs) ≡ n
+pub number-written : (n : ℕ) (bs : List ℕ) → n < 2 ^ 32 → number-in (number-bytes n ++ bs) ≡ n
 number-written n bs h =
     omega (arith, div-add-mod' n 256, div-add-mod' (n / 256) 256, div-add-mod' (n / 65536) 256, quotient-2 n, quotient-3 n, mod-eq-of-lt (div-below n 16777216 256 (omega arith) h))
 
@@ -40,7 +40,7 @@ four a b c d p q r s =
     rw (a′, b′, c′, d′)
 
 -- what was read was written so
-pub number-read : (bs : List ℕ) → Bytes bs → 4 ≤ length bs → number-bytes (number bs) ++ drop 4 bs ≡ bs
+pub number-read : (bs : List ℕ) → Bytes bs → 4 ≤ length bs → number-bytes (number-in bs) ++ drop 4 bs ≡ bs
 number-read [] p h = absurd (omega arith)
 number-read (a ∷ []) p h = absurd (omega arith)
 number-read (a ∷ b ∷ []) p h = absurd (omega arith)
@@ -52,5 +52,5 @@ byte-at [] p i = omega arith
 byte-at (b ∷ bs) p zero = p .0
 byte-at (b ∷ bs) p (suc i) = byte-at bs (p .1) i
 
-pub number-small : (bs : List ℕ) → Bytes bs → number bs < 2 ^ 32
+pub number-small : (bs : List ℕ) → Bytes bs → number-in bs < 2 ^ 32
 number-small bs p = omega (arith, byte-at bs p 0, byte-at bs p 1, byte-at bs p 2, byte-at bs p 3)

@@ -1,21 +1,21 @@
 -- Reading lines is the inverse of writing them. Assumes nothing.
 use mathlib.Core.Path.{_≡_, refl, sym, ap, subst, _∙_}
 use mathlib.Core.List.{List, [], _∷_, _++_}
-use Prim.Native.Nat.{ℕ, zero, suc, _+_, _*_, _^_, _≤_, _<_}
+use Prim.Native.Nat.{ℕ, zero, suc, _≤_, _<_}
 use native.Mathlib.Omega.{arith}
 use lib.ListN.{length, getD, drop}
-use Rattle.std.specs.shelf.Lists.{All, joined}
+use Rattle.std.specs.shelf.Lists.{All}
 use Rattle.std.proofs.shelf.Elements.{all-drop}
 use Rattle.std.proofs.shelf.Lists.{append-assoc}
 use Rattle.std.specs.declared.option.Option.{Option}
 use Rattle.std.specs.declared.option.Option.the-variants.{Some, None}
-use Rattle.members.specs.Bytes.{Bytes, number, number-bytes}
-use Rattle.members.specs.Lines.{line-bytes, line-at, death-at, lines-in, text-of, before}
+use Rattle.members.specs.Bytes.{Bytes, number-in, number-bytes}
+use Rattle.members.specs.Lines.{line-bytes, line-at, lines-in, text-of, before}
 use Rattle.members.specs.Written.{Sized, lines-bytes, Line-reads-back, Line-is-its-bytes, Lines-read-back, Lines-of, Lines-are-their-bytes}
 use Rattle.members.specs.declared.line.Line.{Line}
 use Rattle.members.specs.declared.line.Line.the-variants.{Death, NewYear, WoundUp}
 use Rattle.members.proofs.Lines.{death-is, kind-death, kind-new-year, kind-wound-up, at-some, shorter, text-none, text-some}
-use Rattle.members.proofs.Numbers.{number-written, number-read, number-small, byte-at}
+use Rattle.members.proofs.Numbers.{number-written, number-read, number-small}
 
 pub line-reads-back : Line-reads-back
 line-reads-back (Death member word) bs s =
@@ -28,7 +28,7 @@ begins : (bs : List ℕ) (k : ℕ) → getD bs 0 0 ≡ suc k → bs ≡ suc k �
 begins [] k e = absurd (omega arith)
 begins (b ∷ bs) k e = ap (λ x. x ∷ bs) e
 
-death-bytes : (bs : List ℕ) → Bytes bs → getD bs 0 0 ≡ 1 → 5 ≤ length (drop 1 bs) → (bs ≡ line-bytes (Death (getD (drop 1 bs) 0 0) (number (drop 1 (drop 1 bs)))) ++ drop 5 (drop 1 bs)) × Sized (Death (getD (drop 1 bs) 0 0) (number (drop 1 (drop 1 bs))))
+death-bytes : (bs : List ℕ) → Bytes bs → getD bs 0 0 ≡ 1 → 5 ≤ length (drop 1 bs) → (bs ≡ line-bytes (Death (getD (drop 1 bs) 0 0) (number-in (drop 1 (drop 1 bs)))) ++ drop 5 (drop 1 bs)) × Sized (Death (getD (drop 1 bs) 0 0) (number-in (drop 1 (drop 1 bs))))
 death-bytes [] p k h = absurd (omega arith)
 death-bytes (b ∷ []) p k h = absurd (omega arith)
 death-bytes (b ∷ m ∷ bs) p k h =

@@ -9,9 +9,9 @@ use Rattle.members.specs.Limits.{first-age}
 abbrev pub Bytes : List ℕ → Type 0
 Bytes bs = All (λ b. b < 256) bs
 
--- the number that the first four bytes write, the low one first
-abbrev pub number : List ℕ → ℕ
-number bs = getD bs 0 0 + getD bs 1 0 * 256 + getD bs 2 0 * 65536 + getD bs 3 0 * 16777216
+-- the number that the first four bytes write, the low one first; a byte that is not there counts as 0
+abbrev pub number-in : List ℕ → ℕ
+number-in bs = getD bs 0 0 + getD bs 1 0 * 256 + getD bs 2 0 * 65536 + getD bs 3 0 * 16777216
 
 -- the four bytes that write a number below 2^32
 abbrev pub number-bytes : ℕ → List ℕ

@@ -2,7 +2,7 @@
 use mathlib.Core.Path.{_≡_, sym, subst}
 use mathlib.Core.Logic.{⊎-elim}
 use mathlib.Core.Bool.{Bool, true, cond, not}
-use mathlib.Core.List.{List, [], _∷_, _++_, map}
+use mathlib.Core.List.{List, _++_, map}
 use Prim.Native.Nat.{ℕ, _+_, _*_, _≤_, _<_}
 use native.Mathlib.Omega.{arith}
 use lib.Dec.{ltb}
@@ -16,8 +16,8 @@ use Rattle.std.specs.declared.option.Option.{Option}
 use Rattle.std.specs.declared.option.Option.the-variants.{Some, None}
 use Rattle.std.specs.declared.result.Result.{Result}
 use Rattle.std.specs.declared.result.Result.the-variants.{Ok, Err}
-use Rattle.members.specs.Bytes.{number, weight-for}
-use Rattle.members.specs.Limits.{Weight, most-members, most-weight, ages, table-at, weight-size, members-at, member-size, into, fair-weight, fair-age, fair-stake, fair-count}
+use Rattle.members.specs.Bytes.{number-in, weight-for}
+use Rattle.members.specs.Limits.{Weight, most-members, most-weight, ages, table-at, weight-size, members-at, member-size, clamped, good-weight, good-age, good-stake, good-count}
 use Rattle.members.specs.Lines.{line-count}
 use Rattle.members.specs.Members.{newcomer}
 use Rattle.members.specs.declared.head.Head.{Head}
@@ -43,7 +43,7 @@ after-head bs = drop (head-length (announced bs)) bs
 
 -- the weight that stands at an index of the table
 abbrev pub weight-at : List ℕ → ℕ → ℕ
-weight-at bs i = number (drop (table-at + weight-size * i) bs)
+weight-at bs i = number-in (drop (table-at + weight-size * i) bs)
 
 -- the age of the i-th member, which stands after a head of those before it
 abbrev pub age-at : List ℕ → ℕ → ℕ
@@ -51,23 +51,23 @@ age-at bs i = getD bs (head-length i) 0
 
 -- the stake of the i-th member, after its age
 abbrev pub stake-at : List ℕ → ℕ → ℕ
-stake-at bs i = number (drop (head-length i + 1) bs)
+stake-at bs i = number-in (drop (head-length i + 1) bs)
 
 -- the weights of the table. A table's bounds are part of it, so what is out of them is brought in; no book with such is accepted
 unfoldable pub weights-of : List ℕ → List ℕ
-weights-of bs = map (λ i. into most-weight (weight-at bs i)) (counting 0 ages)
+weights-of bs = map (λ i. clamped most-weight (weight-at bs i)) (counting 0 ages)
 
 -- there is one for each age
 pub weights-whole : (bs : List ℕ) → length (weights-of bs) ≡ ages
 unfolding weights-of
-weights-whole bs = length-map-counting (λ i. into most-weight (weight-at bs i)) 0 ages
+weights-whole bs = length-map-counting (λ i. clamped most-weight (weight-at bs i)) 0 ages
 
 -- and each is in bounds
 pub weights-bounded : (bs : List ℕ) (i : ℕ) → Weight (getD (weights-of bs) i 1)
 unfolding weights-of
 weights-bounded bs i =
     ⊎-elim
-    (λ (h : i < ages). subst Weight (sym (getD-map-counting (λ i. into most-weight (weight-at bs i)) 0 ages i i 1 h (omega arith))) (omega arith, omega arith))
+    (λ (h : i < ages). subst Weight (sym (getD-map-counting (λ i. clamped most-weight (weight-at bs i)) 0 ages i i 1 h (omega arith))) (omega arith, omega arith))
     (λ (h : ages ≤ i). subst Weight (sym (getD-past (weights-of bs) i 1 (omega (arith, weights-whole bs)))) (omega arith, omega arith))
     (cases-lt i ages)
 
@@ -87,33 +87,21 @@ members-of bs = map (member-at bs) (counting 0 (announced bs))
 unfoldable pub first-bad : (ℕ → Bool) → ℕ → ℕ
 first-bad good n = leading good (counting 0 n)
 
--- the index of the first weight that is out of bounds
+-- the index of the first weight that is out of bounds, or how many there are where none is
 abbrev pub bad-weight : List ℕ → ℕ
-bad-weight bs = first-bad (λ i. fair-weight (weight-at bs i)) ages
+bad-weight bs = first-bad (λ i. good-weight (weight-at bs i)) ages
 
--- the first of n members whose age is out of bounds
+-- the first of n members whose age is out of bounds, or n where none is
 abbrev pub bad-age : List ℕ → ℕ → ℕ
-bad-age bs n = first-bad (λ i. fair-age (age-at bs i)) n
+bad-age bs n = first-bad (λ i. good-age (age-at bs i)) n
 
--- the first of n members whose stake is out of bounds
+-- the first of n members whose stake is out of bounds, or n where none is
 abbrev pub bad-stake : List ℕ → ℕ → ℕ
-bad-stake bs n = first-bad (λ i. fair-stake (stake-at bs i)) n
+bad-stake bs n = first-bad (λ i. good-stake (stake-at bs i)) n
 
--- what a check of n numbers hands on, or the refusal at the first of them that is bad
-abbrev pub checked : {A : Type 0} → ℕ → ℕ → (ℕ → Refusal) → A → Result A Refusal
-checked bad n why x = cond (ltb bad n) (Err (why bad)) (Ok x)
-
--- the first n members of a book are in order, and the table is the book's
-pub record Known (bs : List ℕ) (t : Table) (n : ℕ) : Type 0 where
-  pub few : n ≤ most-members
-  pub long : head-length n ≤ length bs
-  pub table : t ≡ table-of bs
-  pub aged : (i : ℕ) → i < n → fair-age (age-at bs i) ≡ true
-  pub staked : (i : ℕ) → i < n → fair-stake (stake-at bs i) ≡ true
-
--- the table and n members of a book that is long enough for them, or the first ground on which it is turned away
-abbrev pub body-of : List ℕ → ℕ → Result Head Refusal
-body-of bs n =
+-- the head of a book that is long enough for n members, or the first ground on which its weights, ages or stakes turn it away
+abbrev pub entries-of : List ℕ → ℕ → Result Head Refusal
+entries-of bs n =
     cond (ltb (bad-weight bs) ages) (Err (refusal.Table (bad-weight bs)))
     (cond (ltb (bad-age bs n) n) (Err (refusal.Age (bad-age bs n)))
     (cond (ltb (bad-stake bs n) n) (Err (refusal.Stake (bad-stake bs n)))
@@ -122,9 +110,9 @@ body-of bs n =
 -- the head of a book, or the first ground on which it is turned away
 abbrev pub head-of : List ℕ → Result Head Refusal
 head-of bs =
-    cond (not (fair-count (announced bs))) (Err refusal.Count)
+    cond (not (good-count (announced bs))) (Err refusal.Count)
     (cond (ltb (length bs) (head-length (announced bs))) (Err (refusal.Table (length bs)))
-    (body-of bs (announced bs)))
+    (entries-of bs (announced bs)))
 
 -- the first memory that is too short, where so many places are lent for members
 abbrev pub lacking : ℕ → Room → List ℕ → Option Memory
@@ -146,3 +134,17 @@ answer places room bs = unless-lacking (lacking places room bs) (head-of bs)
 abbrev pub seated : Result Head Refusal → List ℕ → List Member → List Member
 seated (Ok h) bs places = members-of bs ++ drop (h .count) places
 seated (Err e) bs places = places
+
+-- What follows serves functions that no other crate can call.
+
+-- what a check of n numbers hands on, or the refusal at the first of them that is bad
+abbrev pub checked : {A : Type 0} → ℕ → ℕ → (ℕ → Refusal) → A → Result A Refusal
+checked bad n why x = cond (ltb bad n) (Err (why bad)) (Ok x)
+
+-- the i-th member of a book can be made: the book is long enough for it, its age and its stake are in bounds, and the table is the book's
+pub record Known (bs : List ℕ) (t : Table) (i : ℕ) : Type 0 where
+  pub few : i < most-members
+  pub long : head-length (i + 1) ≤ length bs
+  pub table : t ≡ table-of bs
+  pub aged : good-age (age-at bs i) ≡ true
+  pub staked : good-stake (stake-at bs i) ≡ true

@@ -1,4 +1,4 @@
--- The bounds of a society, as facts and as tests. Assumes nothing.
+-- The bounds of a society, as facts and as tests, and the places of its parts in a book. Assumes nothing.
 use mathlib.Core.Bool.{Bool, _&&_}
 use Prim.Native.Nat.{ℕ, _+_, _*_, _≤_, min, max}
 use lib.Dec.{leb}
@@ -56,21 +56,21 @@ abbrev pub from-to : ℕ → ℕ → ℕ → Bool
 from-to low high n = leb low n && leb n high
 
 -- whether w can be a weight
-abbrev pub fair-weight : ℕ → Bool
-fair-weight w = from-to 1 most-weight w
+abbrev pub good-weight : ℕ → Bool
+good-weight w = from-to 1 most-weight w
 
 -- whether s can be a stake
-abbrev pub fair-stake : ℕ → Bool
-fair-stake s = from-to 1 most-stake s
+abbrev pub good-stake : ℕ → Bool
+good-stake s = from-to 1 most-stake s
 
 -- whether a can be the age of a member
-abbrev pub fair-age : ℕ → Bool
-fair-age a = from-to first-age last-age a
+abbrev pub good-age : ℕ → Bool
+good-age a = from-to first-age last-age a
 
 -- whether n can be the number of members
-abbrev pub fair-count : ℕ → Bool
-fair-count n = from-to 1 most-members n
+abbrev pub good-count : ℕ → Bool
+good-count n = from-to 1 most-members n
 
 -- n brought into the bounds 1 and most, which changes nothing within them
-abbrev pub into : ℕ → ℕ → ℕ
-into most n = max 1 (min n most)
+abbrev pub clamped : ℕ → ℕ → ℕ
+clamped most n = max 1 (min n most)

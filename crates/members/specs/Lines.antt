@@ -8,7 +8,7 @@ use denote.Ref.{RefT, now}
 use Rattle.std.specs.Options.{mapped}
 use Rattle.std.specs.declared.option.Option.{Option}
 use Rattle.std.specs.declared.option.Option.the-variants.{Some, None}
-use Rattle.members.specs.Bytes.{number, number-bytes}
+use Rattle.members.specs.Bytes.{number-in, number-bytes}
 use Rattle.members.specs.declared.line.Line.{Line}
 use Rattle.members.specs.declared.line.Line.the-variants.{Death, NewYear, WoundUp}
 
@@ -20,9 +20,9 @@ line-bytes WoundUp = 3 ∷ []
 
 -- the death whose bytes, after its kind, begin these, and the bytes after it; none where they end in the death
 unfoldable pub death-at : List ℕ → Option (Line × List ℕ)
-death-at bs = cond (ltb (length bs) 5) None (Some (Death (getD bs 0 0) (number (drop 1 bs)), drop 5 bs))
+death-at bs = cond (ltb (length bs) 5) None (Some (Death (getD bs 0 0) (number-in (drop 1 bs)), drop 5 bs))
 
--- the line that begins these bytes and the bytes after it, or none: where there are no bytes, where the first is no line's kind, or where they end in the line
+-- the line that begins these bytes and the bytes after it, or none: where the first byte is no line's kind, where they end in the line, or where there are no bytes, since `getD` then reads a 0, which is no kind
 unfoldable pub line-at : List ℕ → Option (Line × List ℕ)
 line-at bs =
     cond (eqb (getD bs 0 0) 1) (death-at (drop 1 bs))
@@ -51,11 +51,11 @@ lines-in (suc n) bs = elim (line-at bs) [ None ↦ record { lines = []; left = b
 abbrev pub text-of : List ℕ → Text
 text-of bs = lines-in (length bs) bs
 
--- one more where something is left: a line that cannot be read
-abbrev pub with-rest : List ℕ → ℕ
-with-rest [] = 0
-with-rest (b ∷ bs) = 1
+-- 1 where something is left, which is a line that cannot be read, else 0
+abbrev pub unreadable : List ℕ → ℕ
+unreadable [] = 0
+unreadable (b ∷ bs) = 1
 
 -- how many lines the bytes have, one that cannot be read being the last
 unfoldable pub line-count : List ℕ → ℕ
-line-count bs = length (text-of bs .lines) + with-rest (text-of bs .left)
+line-count bs = length (text-of bs .lines) + unreadable (text-of bs .left)

@@ -2,16 +2,16 @@
 use mathlib.Core.Bool.{true, false}
 use Prim.Native.Nat.{ℕ}
 use native.Mathlib.Omega.{arith}
-use Rattle.members.specs.Limits.{Weight, Stake, most-weight, most-stake, into}
+use Rattle.members.specs.Limits.{most-weight, most-stake, clamped}
 use Rattle.members.specs.declared.member.Member.{Member}
 
--- a living member that was paid nothing yet. A member's bounds are part of it, so what is out of them is brought in; nobody is made of such
+-- a living member that was paid nothing yet. A member's bounds are part of it, so a number out of bounds is brought into them; no member is made from such numbers
 abbrev pub newcomer : ℕ → ℕ → ℕ → ℕ → Member
 newcomer number age weight stake = record {
   number = number;
   age = age;
-  weight = into most-weight weight;
-  stake = into most-stake stake;
+  weight = clamped most-weight weight;
+  stake = clamped most-stake stake;
   paid = 0;
   alive = true;
   weighs = (omega arith, omega arith);

@@ -1,7 +1,7 @@
 -- Books as they are written, and what reading them gives. Assumes nothing.
 use mathlib.Core.Path.{_≡_}
 use mathlib.Core.Bool.{true}
-use mathlib.Core.List.{List, [], _∷_, _++_}
+use mathlib.Core.List.{List, _∷_, _++_}
 use Prim.Native.Nat.{ℕ, _^_, _≤_, _<_}
 use lib.ListN.{length, getD}
 use Rattle.std.specs.shelf.Lists.{All, joined}
@@ -9,7 +9,7 @@ use Rattle.std.specs.declared.option.Option.the-variants.{Some, None}
 use Rattle.std.specs.declared.result.Result.the-variants.{Ok}
 use Rattle.members.specs.Bytes.{Bytes, number-bytes, weight-for}
 use Rattle.members.specs.Heads.{answer, table-of, members-of, after-head}
-use Rattle.members.specs.Limits.{most-members, fair-age}
+use Rattle.members.specs.Limits.{most-members, good-age}
 use Rattle.members.specs.Lines.{line-bytes, line-at, line-count, text-of}
 use Rattle.members.specs.Members.{nobody}
 use Rattle.members.specs.declared.head.Head.{Head}
@@ -60,9 +60,9 @@ abbrev pub head-bytes : Table → List Member → List ℕ
 head-bytes t ms = length ms ∷ (joined number-bytes (t .weights) ++ joined member-bytes ms)
 
 -- m is as the i-th member is when a society is founded: alive, paid nothing, of an age of the table and with the weight of that age
-pub record Newcomer (t : Table) (i : ℕ) (m : Member) : Type 0 where
+pub record Founder (t : Table) (i : ℕ) (m : Member) : Type 0 where
   pub number : m .number ≡ i
-  pub aged : fair-age (m .age) ≡ true
+  pub aged : good-age (m .age) ≡ true
   pub weighed : m .weight ≡ weight-for (t .weights) (m .age)
   pub unpaid : m .paid ≡ 0
   pub lives : m .alive ≡ true
@@ -71,13 +71,13 @@ pub record Newcomer (t : Table) (i : ℕ) (m : Member) : Type 0 where
 pub record Founders (t : Table) (ms : List Member) : Type 0 where
   pub some : 1 ≤ length ms
   pub few : length ms ≤ most-members
-  pub each : (i : ℕ) → i < length ms → Newcomer t i (getD ms i nobody)
+  pub each : (i : ℕ) → i < length ms → Founder t i (getD ms i nobody)
 
--- what is read from bytes is this table, these members and these bytes after the head
-pub record Reads (places : ℕ) (room : Room) (bs : List ℕ) (t : Table) (ms : List Member) (lines : List ℕ) : Type 0 where
+-- what is read from bytes is this table, these members and, after the head, this rest
+pub record Reads (places : ℕ) (room : Room) (bs : List ℕ) (t : Table) (ms : List Member) (rest : List ℕ) : Type 0 where
   pub head : answer places room bs ≡ Ok (record { count = length ms; table = t })
   pub members : members-of bs ≡ ms
-  pub after : after-head bs ≡ lines
+  pub after : after-head bs ≡ rest
 
 -- a head that is written is read, whatever follows it, where enough memory is lent
 abbrev pub Head-reads-back : Type 0
@@ -85,7 +85,7 @@ Head-reads-back =
     (places : ℕ) (room : Room) (t : Table) (ms : List Member) (bs : List ℕ) → Founders t ms →
     length ms ≤ places → length ms ≤ room .cents → line-count bs ≤ room .lines → Reads places room (head-bytes t ms ++ bs) t ms bs
 
--- an accepted book is the bytes of the table and of the members that are read from it, and then of its lines
+-- an accepted book is the bytes of the table and of the members that are read from it, and then the bytes after the head
 pub record Book-of (bs : List ℕ) (h : Head) : Type 0 where
   pub split : bs ≡ head-bytes (h .table) (members-of bs) ++ after-head bs
   pub count : length (members-of bs) ≡ h .count

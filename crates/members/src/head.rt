@@ -1,24 +1,24 @@
 // The head of a book: how many members, the table of weights, and each member's age and stake.
 ghost use mathlib.Core.Path.{_≡_};
 ghost use mathlib.Core.List.{_++_, map};
-ghost use Prim.Native.Nat.{_+_, _≤_, _<_};
+ghost use Prim.Native.Nat.{ℕ, _+_, _≤_, _<_};
 ghost use lib.ListN.{length, drop};
 ghost use Rattle.std.specs.Iters.{counting};
-ghost use Rattle.members.specs.Bytes.{number};
-ghost use Rattle.members.specs.Heads.{announced, head-length, after-head, age-at, stake-at, table-of, member-at, bad-weight, bad-age, bad-stake, checked, Known, body-of, head-of, lacking, answer, seated};
+ghost use Rattle.members.specs.Bytes.{number-in};
+ghost use Rattle.members.specs.Heads.{announced, head-length, after-head, age-at, stake-at, table-of, member-at, bad-weight, bad-age, bad-stake, checked, Known, entries-of, head-of, lacking, answer, seated};
 ghost use Rattle.members.specs.Limits.{ages};
 ghost use Rattle.members.specs.Written.{Head-reads-back, Head-is-its-bytes, One-book-one-meaning};
 ghost use Rattle.members.specs.declared.refusal.Refusal.the-variants as refusal;
 use crate::limits::AGES;
 use crate::limits::FIRST_AGE;
 use crate::limits::LAST_AGE;
-use crate::limits::MEMBER_BYTES;
+use crate::limits::MEMBER_SIZE;
 use crate::limits::MEMBERS_AT;
 use crate::limits::MOST_MEMBERS;
 use crate::limits::MOST_STAKE;
 use crate::limits::MOST_WEIGHT;
 use crate::limits::TABLE_AT;
-use crate::limits::WEIGHT_BYTES;
+use crate::limits::WEIGHT_SIZE;
 use crate::limits::bounded;
 use crate::line::count_lines;
 use crate::member::Member;
@@ -43,7 +43,7 @@ pub struct Head {
 // Reads the head of a book and seats its members in the first of the lent places, or says why the book is turned away.
 pub fn read_head(book: &[u8], members: &mut [Member], room: Room) -> Result<Head, Refusal>
     ensures value { λ r. ⌜ r ≡ answer (length (now (members .entry))) room (now (book .entry)) ⌝ }
-    ensures members { λ r. ⌜ now (members .exit) ≡ seated (answer (length (now (members .entry))) room (now (book .entry))) (now (book .entry)) (now (members .entry)) ⌝ }
+    ensures members { λ r. ⌜ now (members .exit) ≡ seated r (now (book .entry)) (now (members .entry)) ⌝ }
     ensures back { λ _. ⌜ Head-reads-back ⌝ }
     ensures bytes { λ _. ⌜ Head-is-its-bytes ⌝ }
     ensures once { λ _. ⌜ One-book-one-meaning ⌝ }
@@ -51,7 +51,7 @@ pub fn read_head(book: &[u8], members: &mut [Member], room: Room) -> Result<Head
     if let Some(memory) = lacking_memory(book, members.len(), room) {
         return Err(Refusal::Short(memory));
     }
-    let head = parse_head(book)?;
+    let head = check_head(book)?;
     seat(book, &head.table, members, head.count);
     Ok(head)
 }
@@ -88,11 +88,11 @@ fn head_length(count: usize) -> usize
     requires { ⌜ count < 256 ⌝ }
     ensures { λ r. ⌜ r ≡ head-length count ⌝ }
 {
-    MEMBERS_AT + MEMBER_BYTES * count
+    MEMBERS_AT + MEMBER_SIZE * count
 }
 
-// The head of a book, by the checks in their order.
-fn parse_head(book: &[u8]) -> Result<Head, Refusal>
+// The head of a book, where enough memory was lent. The checks stand in their order, here and below.
+fn check_head(book: &[u8]) -> Result<Head, Refusal>
     ensures { λ r. ⌜ r ≡ head-of (now (book .entry)) ⌝ }
 {
     let Some(count) = bounded(announced_count(book) as u64, 1, MOST_MEMBERS) else {
@@ -102,13 +102,13 @@ fn parse_head(book: &[u8]) -> Result<Head, Refusal>
     let Some(_) = book.split_at_checked(head_length(count)) else {
         return Err(Refusal::Table { place: book.len() });
     };
-    read_body(book, count)
+    check_entries(book, count)
 }
 
-// The table and the members of a book that is long enough for them.
-fn read_body(book: &[u8], count: usize) -> Result<Head, Refusal>
+// The head of a book that is long enough for its members.
+fn check_entries(book: &[u8], count: usize) -> Result<Head, Refusal>
     requires { ⌜ head-length count ≤ length (now book) ⌝ }
-    ensures { λ r. ⌜ r ≡ body-of (now (book .entry)) count ⌝ }
+    ensures { λ r. ⌜ r ≡ entries-of (now (book .entry)) count ⌝ }
 {
     let table = read_table(book)?;
     check_ages(book, count)?;
@@ -135,7 +135,7 @@ fn read_table(book: &[u8]) -> Result<Table, Refusal>
     let mut weights = [1; AGES];
     for index in 0..AGES {
         let Some(weight) = bounded(
-            number_at(book, TABLE_AT + WEIGHT_BYTES * index),
+            number_at(book, TABLE_AT + WEIGHT_SIZE * index),
             1,
             MOST_WEIGHT,
         ) else {
@@ -178,7 +178,7 @@ fn age_of(book: &[u8], member: usize) -> u64
     ensures value { λ r. ⌜ r ≡ age-at (now (book .entry)) member ⌝ }
     ensures byte { λ r. ⌜ r < 256 ⌝ }
 {
-    u64::from(book[MEMBERS_AT + MEMBER_BYTES * member])
+    u64::from(book[MEMBERS_AT + MEMBER_SIZE * member])
 }
 
 // The stake that stands in the book for a member.
@@ -186,24 +186,23 @@ fn stake_of(book: &[u8], member: usize) -> u64
     requires { ⌜ head-length (member + 1) ≤ length (now book) ⌝ }
     ensures { λ r. ⌜ r ≡ stake-at (now (book .entry)) member ⌝ }
 {
-    number_at(book, MEMBERS_AT + MEMBER_BYTES * member + 1)
+    number_at(book, MEMBERS_AT + MEMBER_SIZE * member + 1)
 }
 
 // Seats the members in the first places of lent memory.
 fn seat(book: &[u8], table: &Table, members: &mut [Member], count: usize)
-    requires known { ⌜ Known (now book) (now table) count ⌝ }
+    requires known { ⌜ ((i : ℕ) → i < count → Known (now book) (now table) i) ⌝ }
     requires room { ⌜ count ≤ length (now members) ⌝ }
     ensures { λ _. ⌜ now (members .exit) ≡ map (member-at (now (book .entry))) (counting 0 count) ++ drop count (now (members .entry)) ⌝ }
 {
     for number in 0..count {
-        members[number] = read_member(book, table, number, count);
+        members[number] = read_member(book, table, number);
     }
 }
 
-// One of the first members, which are known to be in order.
-fn read_member(book: &[u8], table: &Table, number: usize, count: usize) -> Member
-    requires known { ⌜ Known (now book) (now table) count ⌝ }
-    requires inside { ⌜ number < count ⌝ }
+// A member whose bounds are known.
+fn read_member(book: &[u8], table: &Table, number: usize) -> Member
+    requires { ⌜ Known (now book) (now table) number ⌝ }
     ensures { λ r. ⌜ r ≡ member-at (now (book .entry)) number ⌝ }
 {
     let age = age_of(book, number);
@@ -218,7 +217,7 @@ fn read_member(book: &[u8], table: &Table, number: usize, count: usize) -> Membe
 // The number that stands at a place of the book.
 fn number_at(book: &[u8], at: usize) -> u64
     requires { ⌜ at + 4 ≤ length (now book) ⌝ }
-    ensures { λ r. ⌜ r ≡ number (drop at (now (book .entry))) ⌝ }
+    ensures { λ r. ⌜ r ≡ number-in (drop at (now (book .entry))) ⌝ }
 {
     u64::from(u32::from_le_bytes([book[at], book[at + 1], book[at + 2], book[at + 3]]))
 }

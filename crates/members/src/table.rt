@@ -4,7 +4,7 @@ ghost use mathlib.Core.Bool.{cond};
 ghost use Prim.Native.Nat.{ℕ, _≤_};
 ghost use lib.ListN.{length, getD};
 ghost use Rattle.std.specs.declared.option.Option.the-variants.{Some, None};
-ghost use Rattle.members.specs.Limits.{Weight, first-age, last-age, ages, fair-age};
+ghost use Rattle.members.specs.Limits.{Weight, first-age, last-age, ages, good-age};
 ghost use Rattle.members.specs.Bytes.{weight-for};
 use crate::limits::AGES;
 use crate::limits::FIRST_AGE;
@@ -21,7 +21,7 @@ pub struct Table {
 impl Table {
     // The weight of somebody of an age, or none where the table does not have the age.
     pub fn weight(&self, age: u8) -> Option<u32>
-        ensures { λ r. ⌜ r ≡ cond (fair-age age) (Some (weight-for (now (self .entry) .weights) age)) None ⌝ }
+        ensures { λ r. ⌜ r ≡ cond (good-age age) (Some (weight-for (now (self .entry) .weights) age)) None ⌝ }
     {
         let age = bounded(u64::from(age), FIRST_AGE, LAST_AGE)?;
         Some(self.weight_of(age))

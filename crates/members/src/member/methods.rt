@@ -3,7 +3,7 @@ ghost use mathlib.Core.Path.{_≡_};
 ghost use mathlib.Core.Bool.{cond, _&&_};
 ghost use Prim.Native.Nat.{_*_, _<_, _^_};
 ghost use Rattle.std.specs.declared.option.Option.the-variants.{Some, None};
-ghost use Rattle.members.specs.Limits.{Weight, Stake, fair-weight, fair-stake};
+ghost use Rattle.members.specs.Limits.{Weight, Stake, good-weight, good-stake};
 ghost use Rattle.members.specs.Members.{newcomer, nobody};
 use super::Member;
 use crate::limits::MOST_STAKE;
@@ -27,7 +27,7 @@ impl Member {
 
     // A living member that was paid nothing yet, or none where its weight or its stake is out of bounds.
     pub fn new(number: u8, age: u8, weight: u32, stake: u64) -> Option<Member>
-        ensures { λ r. ⌜ r ≡ cond (fair-weight weight && fair-stake stake) (Some (newcomer number age weight stake)) None ⌝ }
+        ensures { λ r. ⌜ r ≡ cond (good-weight weight && good-stake stake) (Some (newcomer number age weight stake)) None ⌝ }
     {
         let weight = bounded(u64::from(weight), 1, MOST_WEIGHT)?;
         let stake = bounded(stake, 1, MOST_STAKE)?;
@@ -50,7 +50,7 @@ impl Member {
         }
     }
 
-    // Weight times stake: what it stands to lose in a year, in hundred-thousandths of a cent.
+    // Weight times stake: what it loses in a year on average, in hundred-thousandths of a cent.
     pub fn exposure(&self) -> u64
         ensures value { λ r. ⌜ r ≡ now (self .entry) .weight * now (self .entry) .stake ⌝ }
         ensures bound { λ r. ⌜ r < 2 ^ 50 ⌝ }

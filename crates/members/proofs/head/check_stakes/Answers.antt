@@ -1,6 +1,6 @@
 use mathlib.Core.Path.{refl, sym, ap, _∙_}
 use native.Mathlib.Omega.{arith}
-use Rattle.members.specs.Limits.{fair-stake}
+use Rattle.members.specs.Limits.{good-stake}
 use Rattle.members.specs.declared.refusal.Refusal.the-variants.{Stake}
 use Rattle.members.proofs.Checks.{passed-none, passed-more, at-failed, at-end, handed-on, held-back}
 use Rattle.members.proofs.head.check_stakes.Needs as need
@@ -9,10 +9,10 @@ pub loop-member-holds : need.loop-member-holds
 loop-member-holds c = passed-none _ _
 
 pub returns-in-rest : need.returns-in-rest
-returns-in-rest c = at-failed _ _ Stake _ (c .loop-member .member) (omega arith) (ap fair-stake (sym (c .stake-of .ensures)) ∙ held-back _ _ (c .in-rest .ensures tt)) (c .loop-member .inv)
+returns-in-rest c = at-failed _ _ Stake _ (c .loop-member .member) (omega arith) (ap good-stake (sym (c .stake-of .ensures)) ∙ held-back _ _ (c .in-rest .ensures tt)) (c .loop-member .inv)
 
 pub loop-member-again : need.loop-member-again
-loop-member-again c = passed-more _ _ _ (omega arith) (ap fair-stake (sym (c .stake-of .ensures)) ∙ handed-on _ _ _ (c .in-Some .ensures tt) .0) (c .loop-member .inv)
+loop-member-again c = passed-more _ _ _ (omega arith) (ap good-stake (sym (c .stake-of .ensures)) ∙ handed-on _ _ _ (c .in-Some .ensures tt) .0) (c .loop-member .inv)
 
 pub returns : need.returns
 returns c = at-end _ _ Stake _ _ (c .loop-member .member) (omega arith) refl (c .loop-member .inv)

@@ -1,4 +1,4 @@
-use mathlib.Core.Path.{_≡_, sym, ap}
+use mathlib.Core.Path.{sym, ap}
 use native.Mathlib.Omega.{arith}
 use borrow.Author.Needs.{needs}
 use Rattle.members.proofs.Founded.{head-reads-back, head-is-its-bytes, one-book-one-meaning}
@@ -14,7 +14,7 @@ pub returns : need.returns
 returns c =
     let full = sym (c .in-rest .ensures tt) in
     let head = sym (c .in-Continue-head .ensures tt) in
-    record { value = answered _ _ (c .args .book .now) full _ head; members = taken _ _ (c .args .book .now) full _ _ _ head (c .seat .ensures); back = head-reads-back; bytes = head-is-its-bytes; once = one-book-one-meaning }
+    record { value = answered _ _ (c .args .book .now) full _ head; members = taken (c .args .book .now) _ _ _ head (c .seat .ensures); back = head-reads-back; bytes = head-is-its-bytes; once = one-book-one-meaning }
 
 pub returns-in-Some : need.returns-in-Some
 returns-in-Some c = record { value = search needs; members = search needs; back = head-reads-back; bytes = head-is-its-bytes; once = one-book-one-meaning }

@@ -1,6 +1,4 @@
-use mathlib.Core.Path.{_≡_, refl, sym, ap, _∙_}
 use native.Mathlib.Omega.{arith}
-use lib.ListN.{length}
 use Rattle.members.specs.Heads.{member-at}
 use Rattle.members.proofs.Places.{seat-more}
 use Rattle.members.proofs.head.seat.Needs as need
