@@ -1,8 +1,10 @@
 #!/usr/bin/env python3
-"""Holds the program to a second reading of docs/RULES.md, written here with no knowledge of its code.
+"""Holds the program to a second reader of books, which shares no code with it.
 
-books/compare.py PROGRAM [COUNT]    makes COUNT books (2000), most of them damaged somewhere, always the same ones, runs the
+books/compare.py PROGRAM [COUNT]    makes COUNT books (2000), the same ones in each run, most of them damaged somewhere, runs the
 program on each, and says 'N books agree', or shows the first on which the two differ and ends with status 1.
+
+It sees what the program prints: the refusals 1 to 4 with their places, and how many members there are.
 """
 import random
 import subprocess
@@ -72,7 +74,7 @@ def main():
     chance = random.Random(7)
     for _ in range(count):
         book = sample(chance)
-        ran = subprocess.run([program], input=book, capture_output=True)
+        ran = subprocess.run([program], input=book, capture_output=True, timeout=60)
         if (ran.returncode, ran.stdout.decode(), ran.stderr) != (0, reads(book), b""):
             print(f"the book {book.hex()}\nshould give\n{reads(book)}and gave, with status {ran.returncode},\n{ran.stdout.decode()}{ran.stderr.decode()}")
             sys.exit(1)

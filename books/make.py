@@ -1,10 +1,13 @@
 #!/usr/bin/env python3
-"""Writes the example books again: books/NAME.book, each with what the program must print in books/NAME.out.
+"""Writes the example books again: NAME.book, each with what the program must print in NAME.out.
+
+books/make.py [FOLDER]    into FOLDER, or in place of those beside this file.
 
 A book is a byte, the number of members; 71 weights of four bytes; for each member a byte of age and four of stake; then
 lines. All numbers have their low byte first. docs/RULES.md has the whole format.
 """
 import os
+import sys
 
 AGES = 71
 
@@ -39,6 +42,7 @@ PAID = "0 paid 0\n1 paid 0\n2 paid 0\n"
 BOOKS = {
     "three": (head(THREE), PAID),
     "one": (head([(40, 1)]), "0 paid 0\n"),
+    "lines": (head(THREE) + bytes([1, 2]) + number(5000) + bytes([2, 3, 1, 0]), PAID),
     "full": (head([(40 + i, 100_000_000 - i) for i in range(64)]), "".join(f"{i} paid 0\n" for i in range(64))),
     "empty": (b"", "refused 1 at 0\n"),
     "no-members": (head([]), "refused 1 at 0\n"),
@@ -54,7 +58,7 @@ BOOKS = {
 }
 
 if __name__ == "__main__":
-    folder = os.path.dirname(os.path.abspath(__file__))
+    folder = sys.argv[1] if len(sys.argv) > 1 else os.path.dirname(os.path.abspath(__file__))
     for name, (book, out) in BOOKS.items():
         with open(os.path.join(folder, name + ".book"), "wb") as f:
             f.write(book)

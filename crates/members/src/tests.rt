@@ -109,7 +109,7 @@ fn ages(rt: LibcRuntime) -> Result<(), Fail> {
     Ok(())
 }
 
-// A book of three members, 300 bytes, cut after its count, in a weight, at the table's end, in a member and at the head's end.
+// A book of three members, 300 bytes, cut after its count, in a weight, at the table's end, in a member and just before the head's end.
 #[test]
 fn cuts(rt: LibcRuntime) -> Result<(), Fail> {
     for length in [1usize, 2, 5, 283, 284, 285, 286, 289, 290, 299] {
@@ -187,6 +187,8 @@ fn places(rt: LibcRuntime) -> Result<(), Fail> {
         return Err(Fail::new("refused"));
     };
     check_eq(head.count, 2)?;
+    check_eq(head.table.weight(39), None)?;
+    check_eq(head.table.weight(40), Some(1000))?;
     check_eq(head.table.weight(110), Some(7))?;
     check_eq(head.table.weight(111), None)?;
     check_eq(Some(members[0]), Member::new(0, 50, 1000, 600))?;
@@ -195,7 +197,20 @@ fn places(rt: LibcRuntime) -> Result<(), Fail> {
     put(&mut book, 291, &[0, 0, 0, 0])?;
     let mut members = [Member::nobody(); 3];
     check(read_head(book.as_slice(), &mut members, room).is_err())?;
-    check_eq(members[0], Member::nobody())
+    check_eq(members, [Member::nobody(); 3])
+}
+
+// A member's bounds, and the largest product of weight and stake.
+#[test]
+fn makes_members() -> Result<(), Fail> {
+    check_eq(Member::new(0, 50, 0, 1), None)?;
+    check_eq(Member::new(0, 50, 100_001, 1), None)?;
+    check_eq(Member::new(0, 50, 1, 0), None)?;
+    check_eq(Member::new(0, 50, 1, 100_000_001), None)?;
+    let Some(largest) = Member::new(63, 110, 100_000, 100_000_000) else {
+        return Err(Fail::new("out of bounds"));
+    };
+    check_eq(largest.exposure(), 10_000_000_000_000)
 }
 
 // Each kind of line, and the part after it.
@@ -209,7 +224,7 @@ fn lines() -> Result<(), Fail> {
         line,
         Line::Death {
             member: 9,
-            word: 16909060,
+            word: 0x01020304,
         },
     )?;
     check_eq(rest.len(), 7)?;

@@ -25,7 +25,7 @@ fn run(rt: &LibcRuntime) -> Result<(), AnyError> {
     check_arguments(rt)?;
     let book = read_book(rt)?;
     let mut members = [Member::nobody(); PLACES];
-    // a line has a byte at least
+    // a line has a byte at least, so a book has no more lines than bytes
     let room = Room {
         cents: PLACES,
         lines: MOST_BYTES,
@@ -57,7 +57,8 @@ fn read_book(rt: &LibcRuntime) -> Result<Vec<u8>, AnyError> {
         .take(MOST_BYTES as u64 + 1)
         .read_to_end(&mut book)?;
     if book.len() > MOST_BYTES {
-        return Err("the book is longer than 16384 bytes".into());
+        let long = format!(rt.alloc(), "the book is longer than {MOST_BYTES} bytes")?;
+        return Err(long.into());
     }
     Ok(book)
 }
