@@ -41,19 +41,15 @@ filled (b ∷ bs) h = omega arith
 -- a line by its kind
 module _ (bs : List ℕ) where
   pub kind-death : getD bs 0 0 ≡ 1 → line-at bs ≡ death-at (drop 1 bs)
-  unfolding line-at
   kind-death k = grind (arith, tells)
 
   pub kind-new-year : getD bs 0 0 ≡ 2 → line-at bs ≡ Some (NewYear, drop 1 bs)
-  unfolding line-at
   kind-new-year k = grind (arith, tells)
 
   pub kind-wound-up : getD bs 0 0 ≡ 3 → line-at bs ≡ Some (WoundUp, drop 1 bs)
-  unfolding line-at
   kind-wound-up k = grind (arith, tells)
 
   pub kind-none : (getD bs 0 0 ≡ 1 → ⊥) → (getD bs 0 0 ≡ 2 → ⊥) → (getD bs 0 0 ≡ 3 → ⊥) → line-at bs ≡ None
-  unfolding line-at
   kind-none a b c = grind (arith, tells)
 
 -- whatever holds of each way to read a line holds of the line that is read
@@ -96,7 +92,7 @@ unfolding lines-in
 in-some n bs x e = rw (e, lines-in)
 
 none-at : (n : ℕ) → lines-in n [] ≡ record { lines = []; left = [] }
-unfolding lines-in line-at
+unfolding lines-in
 none-at zero = refl
 none-at (suc n) = refl
 

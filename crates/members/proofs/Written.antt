@@ -69,7 +69,7 @@ lines-at n less bs h p (Some x) e =
     }
 
 lines-within : (n : ℕ) (bs : List ℕ) → length bs ≤ n → Bytes bs → Lines-of bs
-unfolding lines-in line-at
+unfolding lines-in
 lines-within zero [] h p = record { split = refl; sized = tt; stuck = refl }
 lines-within zero (b ∷ bs) h p = absurd (omega arith)
 lines-within (suc n) bs h p = lines-at n (lines-within n) bs h p (line-at bs) refl

@@ -22,12 +22,13 @@ line-bytes WoundUp = 3 ∷ []
 unfoldable pub death-at : List ℕ → Option (Line × List ℕ)
 death-at bs = cond (ltb (length bs) 5) None (Some (Death (getD bs 0 0) (number-in (drop 1 bs)), drop 5 bs))
 
--- the line that begins these bytes and the bytes after it, or none: where the first byte is no line's kind, where they end in the line, or where there are no bytes, since `getD` then reads a 0, which is no kind
-unfoldable pub line-at : List ℕ → Option (Line × List ℕ)
-line-at bs =
-    cond (eqb (getD bs 0 0) 1) (death-at (drop 1 bs))
-    (cond (eqb (getD bs 0 0) 2) (Some (NewYear, drop 1 bs))
-    (cond (eqb (getD bs 0 0) 3) (Some (WoundUp, drop 1 bs)) None))
+-- the line that begins these bytes and the bytes after it, or none: where there are no bytes, where the first is no line's kind, or where they end in the line
+abbrev pub line-at : List ℕ → Option (Line × List ℕ)
+line-at [] = None
+line-at (kind ∷ rest) =
+    cond (eqb kind 1) (death-at rest)
+    (cond (eqb kind 2) (Some (NewYear, rest))
+    (cond (eqb kind 3) (Some (WoundUp, rest)) None))
 
 -- what a reader handed on: a line, and what the part after it holds
 abbrev pub handed : Option (Line × RefT (List ℕ)) → Option (Line × List ℕ)

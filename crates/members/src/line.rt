@@ -18,11 +18,9 @@ pub enum Line {
 
 // The first line of a part of the book, with the part after it; none where no line can be read.
 pub fn read_line(part: &[u8]) -> Option<(Line, &[u8])>
-    ensures value { λ r. ⌜ handed r ≡ line-at (now (part .entry)) ⌝ }
-    ensures back { λ _. ⌜ Line-reads-back ⌝ }
-    ensures bytes { λ _. ⌜ Line-is-its-bytes ⌝ }
+    ensures { λ r. ⌜ handed r ≡ line-at (now (part .entry)) ⌝ }
 {
-    let [kind, rest @ ..] = part else {
+    let Some((kind, rest)) = part.split_first() else {
         return None;
     };
     match *kind {
@@ -48,6 +46,8 @@ fn read_death(part: &[u8]) -> Option<(Line, &[u8])>
 // How many lines a part of the book has. One that cannot be read is the last.
 pub fn count_lines(part: &[u8]) -> usize
     ensures value { λ r. ⌜ r ≡ line-count (now (part .entry)) ⌝ }
+    ensures line_back { λ _. ⌜ Line-reads-back ⌝ }
+    ensures line_bytes { λ _. ⌜ Line-is-its-bytes ⌝ }
     ensures back { λ _. ⌜ Lines-read-back ⌝ }
     ensures bytes { λ _. ⌜ Lines-are-their-bytes ⌝ }
 {
