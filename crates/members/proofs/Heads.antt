@@ -54,11 +54,11 @@ accepted bs h e =
     let c = past _ _ _ h (b .1) in
     let d = past _ _ _ h (c .1) in
     let f = past _ _ _ h (d .1) in
-    let fair = good-within 1 most-members n (not-false _ (a .0)) in
+    let counted = good-within 1 most-members n (not-false _ (a .0)) in
     record {
       is = ok-same _ h (sym (f .1));
-      some = fair .0;
-      few = fair .1;
+      some = counted .0;
+      few = counted .1;
       long = ltb-false (length bs) (head-length n) (b .0);
       weights = none-bad _ ages (c .0);
       aged = none-bad _ n (d .0);
@@ -67,8 +67,8 @@ accepted bs h e =
 
 -- and the other way round
 pub accepts : (bs : List ℕ) → good-count (announced bs) ≡ true → head-length (announced bs) ≤ length bs → bad-weight bs ≡ ages → bad-age bs (announced bs) ≡ announced bs → bad-stake bs (announced bs) ≡ announced bs → head-of bs ≡ Ok (record { count = announced bs; table = table-of bs })
-accepts bs fair long weights aged staked =
-    cond-false _ _ _ (not-from-true _ fair)
+accepts bs counted long weights aged staked =
+    cond-false _ _ _ (not-from-true _ counted)
     ∙ cond-false _ _ _ (le-ltb (length bs) (head-length (announced bs)) long)
     ∙ cond-false _ _ _ (le-ltb (bad-weight bs) ages (omega arith))
     ∙ cond-false _ _ _ (le-ltb (bad-age bs (announced bs)) (announced bs) (omega arith))
