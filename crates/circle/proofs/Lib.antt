@@ -1,0 +1,5 @@
+pub mod Bounds
+pub mod Living
+pub mod Owners
+pub mod Sums
+pub mod Walks

@@ -1,0 +1,50 @@
+-- The circle when members without units are taken out of the list. Assumes nothing: these are definitions and a statement.
+use mathlib.Core.Path.{_≡_}
+use mathlib.Core.Bool.{cond}
+use mathlib.Core.List.{List, [], _∷_}
+use Prim.Native.Nat.{ℕ, zero, suc, _<_}
+use lib.ListN.{length}
+use Rattle.members.specs.declared.member.Member.{Member}
+use Rattle.circle.specs.Circle.{units, whole, most, start, owner, member-of}
+
+-- those who live, in their order
+unfoldable pub living : List Member → List Member
+living [] = []
+living (m ∷ ms) = cond (m .alive) (m ∷ living ms) (living ms)
+
+-- where the i-th of the living stands among all
+unfoldable pub stood : List Member → ℕ → ℕ
+stood [] i = i
+stood (m ∷ ms) zero = cond (m .alive) 0 (suc (stood ms 0))
+stood (m ∷ ms) (suc i) = cond (m .alive) (suc (stood ms i)) (suc (stood ms (suc i)))
+
+-- all but the member at place k
+unfoldable pub without : ℕ → List Member → List Member
+without k [] = []
+without zero (m ∷ ms) = ms
+without (suc k) (m ∷ ms) = m ∷ without k ms
+
+-- where the i-th of the others stands among all
+unfoldable pub skip : ℕ → ℕ → ℕ
+skip zero i = suc i
+skip (suc k) zero = 0
+skip (suc k) (suc i) = suc (skip k i)
+
+-- the members of ns, who stand at the places (at i) of ms, make the same circle as all of ms: as many units, the largest holding,
+-- each with its own record and start, and each unit is the same member's
+pub record Same-circle (at : ℕ → ℕ) (ns ms : List Member) : Type 0 where
+  pub size : whole ns ≡ whole ms
+  pub largest : most ns ≡ most ms
+  pub inside : (i : ℕ) → i < length ns → at i < length ms
+  pub apart : (i j : ℕ) → i < length ns → j < length ns → at i ≡ at j → i ≡ j
+  pub member : (i : ℕ) → i < length ns → member-of ns i ≡ member-of ms (at i)
+  pub starts : (i : ℕ) → i < length ns → start ns i ≡ start ms (at i)
+  pub owned : (u : ℕ) → u < whole ms → owner ms u ≡ at (owner ns u)
+
+-- a member without units changes nothing
+abbrev pub Idle-changes-nothing : Type 0
+Idle-changes-nothing = (k : ℕ) (ms : List Member) → units (member-of ms k) ≡ 0 → Same-circle (skip k) (without k ms) ms
+
+-- nor do all the dead together
+abbrev pub Dead-change-nothing : Type 0
+Dead-change-nothing = (ms : List Member) → Same-circle (stood ms) (living ms) ms
