@@ -40,10 +40,10 @@ kept at to m ns ms first later s = record {
   member = member;
   starts = starts;
   owned = λ u h.
-    ⊎-elim
-    (λ (l : u < units m). owner-first m ms u l ∙ sym first ∙ ap to (sym (owner-first m ns u l)))
-    (λ (l : units m ≤ u). owner-later m ms u l ∙ ap suc (s .owned (u - units m) (omega arith)) ∙ sym (later _) ∙ ap to (sym (owner-later m ns u l)))
-    (cases-lt u (units m));
+      ⊎-elim
+      (λ (l : u < units m). owner-first m ms u l ∙ sym first ∙ ap to (sym (owner-first m ns u l)))
+      (λ (l : units m ≤ u). owner-later m ms u l ∙ ap suc (s .owned (u - units m) (omega arith)) ∙ sym (later _) ∙ ap to (sym (owner-later m ns u l)))
+      (cases-lt u (units m));
 }
   where
     inside : (i : ℕ) → i < suc (length ns) → to i < suc (length ms)
@@ -75,8 +75,8 @@ left-out at to m ns ms none later s = record {
   member = λ i h. s .member i h ∙ ap (member-of (m ∷ ms)) (sym (later i));
   starts = λ i h. omega (arith, s .starts i h, ap (start (m ∷ ms)) (later i));
   owned = λ u h.
-    let z : u - units m ≡ u = omega arith in
-    owner-later m ms u (omega arith) ∙ ap (λ n. suc (owner ms n)) z ∙ ap suc (s .owned u (omega arith)) ∙ sym (later _);
+      let z : u - units m ≡ u = omega arith in
+      owner-later m ms u (omega arith) ∙ ap (λ n. suc (owner ms n)) z ∙ ap suc (s .owned u (omega arith)) ∙ sym (later _);
 }
 
 pub idle-changes-nothing : Idle-changes-nothing
@@ -97,9 +97,9 @@ dead-change-nothing [] = empty (stood [])
 dead-change-nothing (m ∷ ms) =
     ⊎-elim
     (λ (e : m .alive ≡ true).
-      subst (λ ns. Same-circle (stood (m ∷ ms)) ns (m ∷ ms)) (sym (cond-true (m .alive) _ _ e))
-      (kept (stood ms) (stood (m ∷ ms)) m (living ms) ms (cond-true (m .alive) _ _ e) (λ i. cond-true (m .alive) _ _ e) (dead-change-nothing ms)))
+    subst (λ ns. Same-circle (stood (m ∷ ms)) ns (m ∷ ms)) (sym (cond-true (m .alive) _ _ e))
+    (kept (stood ms) (stood (m ∷ ms)) m (living ms) ms (cond-true (m .alive) _ _ e) (λ i. cond-true (m .alive) _ _ e) (dead-change-nothing ms)))
     (λ (e : m .alive ≡ false).
-      subst (λ ns. Same-circle (stood (m ∷ ms)) ns (m ∷ ms)) (sym (cond-false (m .alive) _ _ e))
-      (left-out (stood ms) (stood (m ∷ ms)) m (living ms) ms (units-dead m e) (stood-dead m ms e) (dead-change-nothing ms)))
+    subst (λ ns. Same-circle (stood (m ∷ ms)) ns (m ∷ ms)) (sym (cond-false (m .alive) _ _ e))
+    (left-out (stood ms) (stood (m ∷ ms)) m (living ms) ms (units-dead m e) (stood-dead m ms e) (dead-change-nothing ms)))
     (cases-bool (m .alive))

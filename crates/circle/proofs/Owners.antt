@@ -84,8 +84,8 @@ owner-holds (m ∷ ms) u h =
     ⊎-elim
     (λ (l : u < units m). subst (λ k. Holds (m ∷ ms) k u) (sym (owner-first m ms u l)) (omega arith, omega arith))
     (λ (l : units m ≤ u).
-      let i = owner-holds ms (u - units m) (omega arith) in
-      subst (λ k. Holds (m ∷ ms) k u) (sym (owner-later m ms u l)) (omega (arith, i .0), omega (arith, i .1)))
+    let i = owner-holds ms (u - units m) (omega arith) in
+    subst (λ k. Holds (m ∷ ms) k u) (sym (owner-later m ms u l)) (omega (arith, i .0), omega (arith, i .1)))
     (cases-lt u (units m))
 
 -- the units of a member have it as owner
@@ -118,7 +118,7 @@ owns-its-units ms k =
     ∙ ⊎-elim
     (λ (h : k < length ms). span-one _ (length ms) k h (λ j l d. let e = ne-eqb j k d in rw e (omega arith)) ∙ (let e = eq-eqb k k refl in rw e (omega arith)))
     (λ (h : length ms ≤ k).
-      span-none _ (length ms) (λ j l. let d : j ≡ k → ⊥ = omega arith in let e = ne-eqb j k d in rw e (omega arith)) ∙ sym (units-past ms k h))
+    span-none _ (length ms) (λ j l. let d : j ≡ k → ⊥ = omega arith in let e = ne-eqb j k d in rw e (omega arith)) ∙ sym (units-past ms k h))
     (cases-lt k (length ms))
 
 -- nobody has more than the largest holding
