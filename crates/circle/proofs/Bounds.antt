@@ -10,8 +10,8 @@ use Rattle.std.proofs.shelf.Bits.{mul-le}
 use Rattle.std.proofs.shelf.Tests.{cases-bool}
 use Rattle.members.specs.Limits.{most-members, most-weight, most-stake}
 use Rattle.members.specs.declared.member.Member.{Member}
-use Rattle.circle.specs.Circle.{unit-limit, at-risk, units, whole, member-of}
-use Rattle.circle.specs.Laws.{all-at-risk, Bounded, Units-bounded}
+use Rattle.circle.specs.Circle.{unit-limit, at-risk, all-at-risk, units, whole, member-of}
+use Rattle.circle.specs.Laws.{Units-bounded}
 
 -- the living risk their stake and the dead nothing
 pub at-risk-living : (m : Member) → m .alive ≡ true → at-risk m ≡ m .stake

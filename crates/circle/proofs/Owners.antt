@@ -10,10 +10,10 @@ use Rattle.std.proofs.shelf.Lists.{getD-past}
 use Rattle.std.proofs.shelf.Tests.{lt-ltb, le-ltb, eq-eqb, ne-eqb, cases-lt, cases-eq}
 use Rattle.members.specs.Members.{nobody}
 use Rattle.members.specs.declared.member.Member.{Member}
-use Rattle.circle.specs.Circle.{at-risk, units, whole, most, start, owner, turned, member-of, Holds}
-use Rattle.circle.specs.Laws.{One-owner, Owns-its-units, End-to-end, Largest, Most-is-largest, Permutes, Turn-permutes}
+use Rattle.circle.specs.Circle.{at-risk, units, whole, most, start, owner, member-of, Holds}
+use Rattle.circle.specs.Laws.{One-owner, Owns-its-units, End-to-end, Most-is-largest}
 use Rattle.circle.specs.Sums.{span, bit}
-use Rattle.circle.proofs.Sums.{span-ext, span-none, span-same, span-head, span-one, span-blocks, span-turned, turned-straight, turned-wrapped}
+use Rattle.circle.proofs.Sums.{span-ext, span-none, span-same, span-head, span-one, span-blocks}
 
 -- nobody has no units, nor is there a member past the end of the list
 pub units-nobody : units nobody ≡ 0
@@ -148,27 +148,3 @@ reached (m ∷ (n ∷ ms)) h =
 
 pub most-is-largest : Most-is-largest
 most-is-largest ms = record { bound = most-ge ms; reached = reached ms; within = most-whole ms }
-
--- a unit turned is a unit
-pub turned-below : (w m u : ℕ) → m ≤ w → u < w → turned w m u < w
-turned-below w m u h l =
-    ⊎-elim
-    (λ (s : u + m < w). omega (arith, turned-straight w m u s))
-    (λ (s : w ≤ u + m). omega (arith, turned-wrapped w m u s))
-    (cases-lt (u + m) w)
-
--- two turns that make a whole one change nothing
-pub turned-back : (w m n u : ℕ) → m + n ≡ w → u < w → turned w n (turned w m u) ≡ u
-turned-back w m n u h l =
-    ⊎-elim
-    (λ (s : u + m < w). ap (turned w n) (turned-straight w m u s) ∙ turned-wrapped w n (u + m) (omega arith) ∙ omega arith)
-    (λ (s : w ≤ u + m). ap (turned w n) (turned-wrapped w m u s) ∙ turned-straight w n (u + m - w) (omega arith) ∙ omega arith)
-    (cases-lt (u + m) w)
-
-pub turn-permutes : Turn-permutes
-turn-permutes w m h = record {
-  below = λ u. turned-below w m u h;
-  back = λ u. turned-back w m (w - m) u (omega arith);
-  forth = λ u. turned-back w (w - m) m u (omega arith);
-  sums = λ f. span-turned f w m h;
-}

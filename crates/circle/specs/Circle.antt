@@ -19,6 +19,11 @@ at-risk m = cond (m .alive) (m .stake) 0
 unfoldable pub units : Member → ℕ
 units m = m .weight * at-risk m
 
+-- all cents at risk together
+unfoldable pub all-at-risk : List Member → ℕ
+all-at-risk [] = 0
+all-at-risk (m ∷ ms) = at-risk m + all-at-risk ms
+
 -- all units together
 unfoldable pub whole : List Member → ℕ
 whole [] = 0

@@ -1,13 +1,13 @@
 -- What is promised of the circle. Each is a statement, a type whose proof is owed. Assumes nothing.
 use mathlib.Core.Path.{_≡_}
-use mathlib.Core.List.{List, [], _∷_}
+use mathlib.Core.List.{List}
 use mathlib.Core.Logic.{_↔_}
 use Prim.Native.Nat.{ℕ, _+_, _*_, _-_, _^_, _≤_, _<_}
 use lib.Dec.{eqb}
 use lib.ListN.{length}
 use Rattle.members.specs.Limits.{most-members, most-weight}
 use Rattle.members.specs.declared.member.Member.{Member}
-use Rattle.circle.specs.Circle.{unit-limit, at-risk, units, whole, most, start, owner, turned, member-of, Holds}
+use Rattle.circle.specs.Circle.{all-at-risk, units, whole, most, start, owner, turned, member-of, Holds}
 use Rattle.circle.specs.Sums.{span, bit}
 
 -- each unit has exactly one owner, and that is the member that holds it
@@ -42,11 +42,6 @@ pub record Permutes (w m : ℕ) : Type 0 where
 -- so is each turn by at most w
 abbrev pub Turn-permutes : Type 0
 Turn-permutes = (w m : ℕ) → m ≤ w → Permutes w m
-
--- all cents at risk together
-unfoldable pub all-at-risk : List Member → ℕ
-all-at-risk [] = 0
-all-at-risk (m ∷ ms) = at-risk m + all-at-risk ms
 
 -- how many units there can be: each cent at risk gives at most the largest weight, and a society never has too many
 pub record Bounded (ms : List Member) : Type 0 where

@@ -30,14 +30,16 @@ skip zero i = suc i
 skip (suc k) zero = 0
 skip (suc k) (suc i) = suc (skip k i)
 
--- the members of ns, who stand at the places (at i) of ms, make the same circle as all of ms: as many units, the largest holding,
--- each with its own record and start, and each unit is the same member's
+-- ns, whose i-th member stands at place (at i) of ms, makes the same circle as ms
 pub record Same-circle (at : ℕ → ℕ) (ns ms : List Member) : Type 0 where
+  -- as many units, and the same largest holding
   pub size : whole ns ≡ whole ms
   pub largest : most ns ≡ most ms
+  -- each member stands at a place of its own, and is the same there, its number too
   pub inside : (i : ℕ) → i < length ns → at i < length ms
   pub apart : (i j : ℕ) → i < length ns → j < length ns → at i ≡ at j → i ≡ j
   pub member : (i : ℕ) → i < length ns → member-of ns i ≡ member-of ms (at i)
+  -- its units start at the same unit, and each unit is the same member's
   pub starts : (i : ℕ) → i < length ns → start ns i ≡ start ms (at i)
   pub owned : (u : ℕ) → u < whole ms → owner ms u ≡ at (owner ns u)
 

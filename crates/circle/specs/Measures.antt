@@ -1,4 +1,5 @@
 -- A circle as it is measured. Assumes nothing: these are definitions.
+use mathlib.Core.Path.{_≡_}
 use mathlib.Core.Bool.{cond}
 use mathlib.Core.List.{List}
 use Prim.Native.Nat.{ℕ}
@@ -17,3 +18,7 @@ measures ms = cond (ltb (whole ms) unit-limit) (Some (whole ms, most ms)) None
 -- the two numbers of a circle, where there is one
 abbrev pub measured : Option Circle → Option (ℕ × ℕ)
 measured r = mapped (λ c. (c .size, c .largest)) r
+
+-- the two numbers tell circles apart
+abbrev pub Told-by-measures : Type 0
+Told-by-measures = (r s : Option Circle) → measured r ≡ measured s → r ≡ s

@@ -34,7 +34,7 @@ pub fn start(members: &[Member], place: usize) -> Option<u64>
 pub fn owner(members: &[Member], unit: u64) -> Option<usize>
     ensures value { λ r. ⌜ r ≡ cond (ltb unit (whole (now (members .entry)))) (Some (owner (now (members .entry)) unit)) None ⌝ }
     ensures once { λ _. ⌜ One-owner ⌝ }
-    ensures units { λ _. ⌜ Owns-its-units ⌝ }
+    ensures each { λ _. ⌜ Owns-its-units ⌝ }
 {
     let mut left = unit;
     for (place, member) in members.iter().enumerate() {

@@ -6,7 +6,7 @@ ghost use Rattle.std.specs.declared.option.Option.the-variants.{Some, None};
 ghost use Rattle.circle.specs.Circle.{turned};
 ghost use Rattle.circle.specs.Laws.{Units-bounded, Most-is-largest, Turn-permutes};
 ghost use Rattle.circle.specs.Living.{Idle-changes-nothing, Dead-change-nothing};
-ghost use Rattle.circle.specs.Measures.{measures, measured};
+ghost use Rattle.circle.specs.Measures.{measures, measured, Told-by-measures};
 use super::Circle;
 use crate::holding::units;
 use members::Member;
@@ -18,6 +18,7 @@ impl Circle {
     // The circle of these members, or none where they have too many units. 64 members never have.
     pub fn of(members: &[Member]) -> Option<Circle>
         ensures value { λ r. ⌜ measured r ≡ measures (now (members .entry)) ⌝ }
+        ensures told { λ _. ⌜ Told-by-measures ⌝ }
         ensures bounded { λ _. ⌜ Units-bounded ⌝ }
         ensures largest { λ _. ⌜ Most-is-largest ⌝ }
         ensures idle { λ _. ⌜ Idle-changes-nothing ⌝ }

@@ -14,7 +14,7 @@ returns-then-left-held c =
     let here = next (need.at·returns-then-left-held c .After-units-held) in
     let left = whole-next here in
     let first = owner-next here (c .loop-place .left) (omega arith) in
-    record { value = grind (arith, tells); once = one-owner; units = owns-its-units }
+    record { value = grind (arith, tells); once = one-owner; each = owns-its-units }
 
 pub loop-place-again : need.loop-place-again
 loop-place-again c =
@@ -24,4 +24,4 @@ loop-place-again c =
 pub returns : need.returns
 returns c =
     let none = whole-done (c .args .members .now) (c .loop-place .place) (c .loop-place-test .left) in
-    record { value = grind (arith, tells); once = one-owner; units = owns-its-units }
+    record { value = grind (arith, tells); once = one-owner; each = owns-its-units }

@@ -2,7 +2,7 @@ use native.Mathlib.Omega.{arith}
 use borrow.Author.Needs.{needs}
 use Rattle.std.proofs.shelf.Ways.{tells}
 use Rattle.circle.specs.Circle.{turned}
-use Rattle.circle.proofs.Owners.{turn-permutes}
+use Rattle.circle.proofs.Turns.{turn-permutes}
 use Rattle.circle.proofs.circle.Circle.turned.Needs as need
 
 pub returns-then-unit-self : need.returns-then-unit-self
