@@ -26,7 +26,7 @@ pub fn start(members: &[Member], place: usize) -> Option<u64>
     if place >= members.len() {
         return None;
     }
-    let before = Circle::of(&members[0..place])?;
+    let before = Circle::of(&members[..place])?;
     Some(before.size)
 }
 

@@ -25,14 +25,14 @@ impl Circle {
         ensures dead { λ _. ⌜ Dead-change-nothing ⌝ }
     {
         let mut size = 0;
-        let mut largest = 0;
+        let mut largest: u64 = 0;
         for member in members {
             let held = units(member);
             size += held;
             if size >= UNIT_LIMIT {
                 return None;
             }
-            largest = held.max(largest);
+            largest = largest.max(held);
         }
         Some(Circle { size, largest })
     }

@@ -1,5 +1,4 @@
 use mathlib.Core.Path.{_∙_}
-use native.Mathlib.Nat.{sub-zero}
 use borrow.Author.Needs.{needs}
 use Rattle.circle.proofs.Measures.{start-none, start-some}
 use Rattle.circle.proofs.Owners.{start-take, end-to-end}
@@ -10,10 +9,10 @@ returns-then-place-members c = record { value = search needs; filled = end-to-en
 
 pub returns-in-Break-before : need.returns-in-Break-before
 returns-in-Break-before c =
-    let none = simp sub-zero at (c .in-Break-before .ensures tt .value) in
-    record { value = c .from-residual .ensures ∙ start-none (c .args .members .now) _ (c .args .place) (start-take (c .args .members .now) (c .args .place)) none; filled = end-to-end }
+    let before = start-take (c .args .members .now) (c .args .place) in
+    record { value = c .from-residual .ensures ∙ start-none (c .args .members .now) _ (c .args .place) before (c .in-Break-before .ensures tt .value); filled = end-to-end }
 
 pub returns : need.returns
 returns c =
-    let some = simp sub-zero at (c .in-Continue-before .ensures tt .value) in
-    record { value = start-some (c .args .members .now) _ (c .args .place) (start-take (c .args .members .now) (c .args .place)) _ _ (c .if-place-members .left) some; filled = end-to-end }
+    let before = start-take (c .args .members .now) (c .args .place) in
+    record { value = start-some (c .args .members .now) _ (c .args .place) before _ _ (c .if-place-members .left) (c .in-Continue-before .ensures tt .value); filled = end-to-end }
