@@ -17,8 +17,8 @@ use Rattle.circle.specs.Measures.{measures, Told-by-measures}
 use Rattle.circle.specs.declared.circle.Circle.{Circle}
 
 -- circles are the same once their two numbers are: a bound has one proof
-same-circle : (c d : Circle) → c .size ≡ d .size → c .largest ≡ d .largest → c ≡ d
-same-circle c d s l i = record {
+same-numbers : (c d : Circle) → c .size ≡ d .size → c .largest ≡ d .largest → c ≡ d
+same-numbers c d s l i = record {
   size = s i;
   largest = l i;
   held = isProp→PathP (λ k. l k ≤ s k) (λ k. le-prop) (c .held) (d .held) i;
@@ -31,7 +31,7 @@ told-by-measures None (Some d) e = let z : _≡_ {A = ℕ} 0 1 = cc in absurd (o
 told-by-measures (Some c) None e = let z : _≡_ {A = ℕ} 0 1 = cc in absurd (omega arith)
 told-by-measures (Some c) (Some d) e =
     let p : _≡_ {A = ℕ × ℕ} (c .size, c .largest) (d .size, d .largest) = cc in
-    ap Some (same-circle c d (ap (λ x. x .0) p) (ap (λ x. x .1) p))
+    ap Some (same-numbers c d (ap (λ x. x .0) p) (ap (λ x. x .1) p))
 
 -- the start of a member's units is the size of the circle of those before it, where that has not too many units
 module _ (ms before : List Member) (place : ℕ) (is : start ms place ≡ whole before) where

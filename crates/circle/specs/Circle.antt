@@ -7,10 +7,6 @@ use lib.ListN.{getD}
 use Rattle.members.specs.Members.{nobody}
 use Rattle.members.specs.declared.member.Member.{Member}
 
--- a circle has fewer units than this
-abbrev pub unit-limit : ℕ
-unit-limit = 2 ^ 50
-
 -- the cents that go to the others when a member dies: its stake while it lives; the dead have none left
 unfoldable pub at-risk : Member → ℕ
 at-risk m = cond (m .alive) (m .stake) 0
@@ -24,15 +20,19 @@ unfoldable pub all-at-risk : List Member → ℕ
 all-at-risk [] = 0
 all-at-risk (m ∷ ms) = at-risk m + all-at-risk ms
 
--- all units together
+-- all units together, W in the rules
 unfoldable pub whole : List Member → ℕ
 whole [] = 0
 whole (m ∷ ms) = units m + whole ms
 
--- the largest number of units that one member has
+-- the largest number of units that one member has, M in the rules
 unfoldable pub most : List Member → ℕ
 most [] = 0
 most (m ∷ ms) = max (units m) (most ms)
+
+-- a circle has fewer units than this
+abbrev pub unit-limit : ℕ
+unit-limit = 2 ^ 50
 
 -- where the units of the member at a place start: they lie end to end, from 0 on, in the order of the list
 unfoldable pub start : List Member → ℕ → ℕ
@@ -40,12 +40,12 @@ start [] place = 0
 start (m ∷ ms) zero = 0
 start (m ∷ ms) (suc place) = units m + start ms place
 
--- whose unit u is, by its place in the list; past the last unit it is nobody's, which is the list's length
+-- whose unit u is, by the member's place in the list; past the last unit it is nobody's, which is the list's length
 unfoldable pub owner : List Member → ℕ → ℕ
 owner [] u = 0
 owner (m ∷ ms) u = cond (ltb u (units m)) 0 (suc (owner ms (u - units m)))
 
--- unit u of a circle of w units, turned by m: m is added, and w taken off where it is then w or more
+-- unit u of a circle of w units, turned by m: m is added, and w taken off if that makes w or more
 unfoldable pub turned : ℕ → ℕ → ℕ → ℕ
 turned w m u = cond (ltb (u + m) w) (u + m) (u + m - w)
 
@@ -53,6 +53,6 @@ turned w m u = cond (ltb (u + m) w) (u + m) (u + m - w)
 abbrev pub member-of : List Member → ℕ → Member
 member-of ms place = getD ms place nobody
 
--- unit u is one of those of the member at a place
+-- unit u is one of the units of the member at a place
 abbrev pub Holds : List Member → ℕ → ℕ → Type 0
 Holds ms place u = (start ms place ≤ u) × (u < start ms place + units (member-of ms place))
