@@ -1,16 +1,16 @@
 -- How many units there can be. Assumes nothing.
-use mathlib.Core.Path.{_≡_, refl, ap, sym, _∙_}
-use mathlib.Core.Bool.{Bool, true, false, cond}
+use mathlib.Core.Path.{_≡_}
+use mathlib.Core.Bool.{true, false}
 use mathlib.Core.List.{List, [], _∷_}
 use mathlib.Core.Logic.{⊎-elim}
-use Prim.Native.Nat.{ℕ, zero, suc, _+_, _*_, _≤_, _<_, _^_}
+use Prim.Native.Nat.{_*_, _≤_, _<_}
 use native.Mathlib.Omega.{arith}
 use lib.ListN.{length}
 use Rattle.std.proofs.shelf.Bits.{mul-le}
 use Rattle.std.proofs.shelf.Tests.{cases-bool}
-use Rattle.members.specs.Limits.{most-members, most-weight, most-stake}
+use Rattle.members.specs.Limits.{most-weight, most-stake}
 use Rattle.members.specs.declared.member.Member.{Member}
-use Rattle.circle.specs.Circle.{unit-limit, at-risk, all-at-risk, units, whole, member-of}
+use Rattle.circle.specs.Circle.{unit-limit, at-risk, all-at-risk, units, whole}
 use Rattle.circle.specs.Laws.{Units-bounded}
 
 -- the living risk their stake and the dead nothing
@@ -58,7 +58,7 @@ all-at-risk-le (m ∷ ms) = omega (arith, at-risk-le m, all-at-risk-le ms)
 
 pub units-bounded : Units-bounded
 units-bounded ms = record {
-  each = λ k. units-below (member-of ms k);
   cents = whole-le ms;
-  few = λ h. (omega (arith, whole-le ms, all-at-risk-le ms), omega (arith, whole-le ms, all-at-risk-le ms));
+  small = λ h. (omega (arith, whole-le ms), omega (arith, whole-le ms));
+  few = λ h. omega (arith, all-at-risk-le ms);
 }

@@ -1,6 +1,6 @@
 pub mod Bounds
 pub mod Living
-pub mod Measures
+pub mod Numbers
 pub mod Owners
 pub mod Sums
 pub mod Turns

@@ -2,12 +2,12 @@
 use mathlib.Core.Path.{_≡_, refl, sym, ap, subst, _∙_}
 use mathlib.Core.List.{List, [], _∷_}
 use mathlib.Core.Logic.{⊎-elim}
-use Prim.Native.Nat.{ℕ, zero, suc, _+_, _*_, _-_, _≤_, _<_, max}
+use Prim.Native.Nat.{ℕ, zero, suc, _+_, _*_, _-_, _≤_, _<_}
 use native.Mathlib.Omega.{arith}
-use lib.Dec.{ltb, eqb}
-use lib.ListN.{length, getD, take, drop}
+use lib.Dec.{eqb}
+use lib.ListN.{length, take}
 use Rattle.std.proofs.shelf.Lists.{getD-past}
-use Rattle.std.proofs.shelf.Tests.{lt-ltb, le-ltb, eq-eqb, ne-eqb, cases-lt, cases-eq}
+use Rattle.std.proofs.shelf.Tests.{lt-ltb, le-ltb, eq-eqb, ne-eqb, cases-lt}
 use Rattle.members.specs.Members.{nobody}
 use Rattle.members.specs.declared.member.Member.{Member}
 use Rattle.circle.specs.Circle.{at-risk, units, whole, most, start, owner, member-of, Holds}
@@ -15,7 +15,7 @@ use Rattle.circle.specs.Laws.{One-owner, Owns-its-units, End-to-end, Most-is-l
 use Rattle.circle.specs.Sums.{span, bit}
 use Rattle.circle.proofs.Sums.{span-ext, span-none, span-same, span-head, span-one, span-blocks}
 
--- nobody has no units, nor is there a member past the end of the list
+-- an empty place has no units, and so has a place past the end of the list
 pub units-nobody : units nobody ≡ 0
 unfolding units at-risk
 units-nobody = refl
@@ -103,7 +103,7 @@ held-owner ms k u h =
     ap (owner ms) (sym z) ∙ owner-at ms k (u - start ms k) (omega (arith, h .0, h .1))
 
 pub one-owner : One-owner
-one-owner ms u h = (owner-in ms u h, λ k. (held-owner ms k u, λ e. subst (λ j. Holds ms j u) e (owner-holds ms u h)))
+one-owner ms u = (owner-in ms u, λ k. (λ h. (omega (arith, block-in ms k, h .1), held-owner ms k u h), λ o. subst (λ j. Holds ms j u) (o .1) (owner-holds ms u (o .0))))
 
 -- a sum over all units by their owners is one over the members, each as often as it has units
 pub span-owners : (g : ℕ → ℕ) (ms : List Member) → span (λ u. g (owner ms u)) (whole ms) ≡ span (λ k. units (member-of ms k) * g k) (length ms)
@@ -121,7 +121,7 @@ owns-its-units ms k =
     span-none _ (length ms) (λ j l. let d : j ≡ k → ⊥ = omega arith in let e = ne-eqb j k d in rw e (omega arith)) ∙ sym (units-past ms k h))
     (cases-lt k (length ms))
 
--- nobody has more than the largest holding
+-- no member has more than the largest holding
 pub most-ge : (ms : List Member) (k : ℕ) → units (member-of ms k) ≤ most ms
 unfolding most
 most-ge [] k = omega (arith, units-nobody)
@@ -134,7 +134,7 @@ unfolding most whole
 most-whole [] = omega arith
 most-whole (m ∷ ms) = omega (arith, most-whole ms)
 
--- and somebody has it
+-- and some member has it
 reached : (ms : List Member) → 0 < length ms → (k : ℕ) × (k < length ms) × (units (member-of ms k) ≡ most ms)
 unfolding most
 reached [] h = absurd (omega arith)

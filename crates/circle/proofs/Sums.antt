@@ -1,14 +1,11 @@
 -- The laws of finite sums. Assumes nothing.
 use mathlib.Core.Path.{_≡_, refl, sym, ap, _∙_}
 use mathlib.Core.Logic.{⊎-elim}
-use mathlib.Core.Bool.{Bool, true, false, cond}
 use Prim.Native.Nat.{ℕ, zero, suc, _+_, _*_, _-_, _≤_, _<_}
 use native.Mathlib.Nat.{add-zero, add-suc}
 use native.Mathlib.Omega.{arith}
-use lib.Dec.{ltb, eqb}
-use Rattle.std.proofs.shelf.Tests.{lt-ltb, le-ltb, eq-eqb, ne-eqb, cases-lt, cases-eq}
-use Rattle.circle.specs.Circle.{turned}
-use Rattle.circle.specs.Sums.{span, bit}
+use Rattle.std.proofs.shelf.Tests.{cases-eq}
+use Rattle.circle.specs.Sums.{span}
 
 -- extensionality: sums of the same terms are the same
 pub span-ext : (f g : ℕ → ℕ) (n : ℕ) → ((i : ℕ) → i < n → f i ≡ g i) → span f n ≡ span g n
@@ -91,26 +88,6 @@ span-digits f w s =
 pub span-last-digit : (f : ℕ → ℕ) (w s : ℕ) → span (λ r. span (λ c. f (c * w + r)) s) w ≡ span f (s * w)
 span-last-digit f w s = span-swap (λ r c. f (c * w + r)) w s ∙ span-digits f w s
 
--- a unit before the seam, and one behind it
-pub turned-straight : (w m u : ℕ) → u + m < w → turned w m u ≡ u + m
-unfolding turned
-turned-straight w m u h = rw (lt-ltb (u + m) w h)
-
-pub turned-wrapped : (w m u : ℕ) → w ≤ u + m → turned w m u ≡ u + m - w
-unfolding turned
-turned-wrapped w m u h = rw (le-ltb (u + m) w h)
-
--- rotation: the last m come first
-pub span-turned : (f : ℕ → ℕ) (w m : ℕ) → m ≤ w → span (λ u. f (turned w m u)) w ≡ span f w
-span-turned f w m h =
-    let front : w - m + m ≡ w = omega arith in
-    let back : m + (w - m) ≡ w = omega arith in
-    ap (span (λ u. f (turned w m u))) (sym front)
-    ∙ span-add (λ u. f (turned w m u)) (w - m) m
-    ∙ omega (
-      arith,
-      span-ext (λ u. f (turned w m u)) (λ i. f (m + i)) (w - m) (λ i l. ap f (turned-straight w m i (omega arith) ∙ omega arith)),
-      span-ext (λ i. f (turned w m (w - m + i))) f m (λ i l. ap f (turned-wrapped w m (w - m + i) (omega arith) ∙ omega arith)),
-      span-add f m (w - m),
-      ap (span f) back,
-    )
+-- rotation: the first m terms come last
+pub span-rotated : (f : ℕ → ℕ) (m n : ℕ) → m ≤ n → span (λ i. f (m + i)) (n - m) + span f m ≡ span f n
+span-rotated f m n h = let whole : m + (n - m) ≡ n = omega arith in omega (arith, span-add f m (n - m), ap (span f) whole)

@@ -7,7 +7,7 @@ use lib.ListN.{getD}
 use Rattle.members.specs.Members.{nobody}
 use Rattle.members.specs.declared.member.Member.{Member}
 
--- the cents that go to the others when a member dies: its stake while it lives; the dead have none left
+-- the cents that go to the others when a member dies: its stake while it lives, and none once it is dead
 unfoldable pub at-risk : Member → ℕ
 at-risk m = cond (m .alive) (m .stake) 0
 
@@ -30,29 +30,29 @@ unfoldable pub most : List Member → ℕ
 most [] = 0
 most (m ∷ ms) = max (units m) (most ms)
 
--- a circle has fewer units than this
-abbrev pub unit-limit : ℕ
-unit-limit = 2 ^ 50
-
--- where the units of the member at a place start: they lie end to end, from 0 on, in the order of the list
+-- where the units of the member at a place start: they lie end to end, from 0 on, in the order of the list; past its end that is W
 unfoldable pub start : List Member → ℕ → ℕ
 start [] place = 0
 start (m ∷ ms) zero = 0
 start (m ∷ ms) (suc place) = units m + start ms place
 
--- whose unit u is, by the member's place in the list; past the last unit it is nobody's, which is the list's length
+-- the place of the member whose unit u is; past the last unit it is the list's length, where no member stands
 unfoldable pub owner : List Member → ℕ → ℕ
 owner [] u = 0
 owner (m ∷ ms) u = cond (ltb u (units m)) 0 (suc (owner ms (u - units m)))
 
--- unit u of a circle of w units, turned by m: m is added, and w taken off if that makes w or more
+-- unit u of a circle of w units, turned by so many: they are added, and w is taken off if that makes w or more
 unfoldable pub turned : ℕ → ℕ → ℕ → ℕ
-turned w m u = cond (ltb (u + m) w) (u + m) (u + m - w)
+turned w by u = cond (ltb (u + by) w) (u + by) (u + by - w)
 
--- the member at a place of the list, and nobody, who has no units, past its end
+-- the member at a place of the list, and past its end the record of an empty place, which has no units
 abbrev pub member-of : List Member → ℕ → Member
 member-of ms place = getD ms place nobody
 
 -- unit u is one of the units of the member at a place
 abbrev pub Holds : List Member → ℕ → ℕ → Type 0
 Holds ms place u = (start ms place ≤ u) × (u < start ms place + units (member-of ms place))
+
+-- the code makes no circle of so many units or more
+abbrev pub unit-limit : ℕ
+unit-limit = 2 ^ 50

@@ -5,16 +5,16 @@ use mathlib.Core.Logic.{_↔_}
 use Prim.Native.Nat.{ℕ, _+_, _*_, _-_, _^_, _≤_, _<_}
 use lib.Dec.{eqb}
 use lib.ListN.{length}
-use Rattle.members.specs.Limits.{most-members, most-weight}
+use Rattle.members.specs.Limits.{most-members, most-weight, most-stake}
 use Rattle.members.specs.declared.member.Member.{Member}
-use Rattle.circle.specs.Circle.{all-at-risk, units, whole, most, start, owner, turned, member-of, Holds}
+use Rattle.circle.specs.Circle.{unit-limit, all-at-risk, units, whole, most, start, owner, turned, member-of, Holds}
 use Rattle.circle.specs.Sums.{span, bit}
 
--- each unit has exactly one owner, and that is the member that holds it
+-- each unit below W has an owner in the list, and a member's units are exactly those below W of which it is the owner
 abbrev pub One-owner : Type 0
-One-owner = (ms : List Member) (u : ℕ) → u < whole ms → (owner ms u < length ms) × ((k : ℕ) → Holds ms k u ↔ (owner ms u ≡ k))
+One-owner = (ms : List Member) (u : ℕ) → (u < whole ms → owner ms u < length ms) × ((k : ℕ) → Holds ms k u ↔ ((u < whole ms) × (owner ms u ≡ k)))
 
--- each member owns exactly its units: so many of all units have it as their owner
+-- each member is the owner of as many units below W as it has
 abbrev pub Owns-its-units : Type 0
 Owns-its-units = (ms : List Member) (k : ℕ) → span (λ u. bit (eqb (owner ms u) k)) (whole ms) ≡ units (member-of ms k)
 
@@ -22,33 +22,34 @@ Owns-its-units = (ms : List Member) (k : ℕ) → span (λ u. bit (eqb (owner ms
 abbrev pub End-to-end : Type 0
 End-to-end = (f : ℕ → ℕ) (ms : List Member) → span (λ k. span (λ x. f (start ms k + x)) (units (member-of ms k))) (length ms) ≡ span f (whole ms)
 
--- nobody has more units than the largest holding, and somebody has that many
+-- the largest holding of a list: no member has more units, some member has so many, and all units together are no fewer
 pub record Largest (ms : List Member) : Type 0 where
   pub bound : (k : ℕ) → units (member-of ms k) ≤ most ms
   pub reached : 0 < length ms → (k : ℕ) × (k < length ms) × (units (member-of ms k) ≡ most ms)
   pub within : most ms ≤ whole ms
 
--- so it is in every list
+-- M is the largest holding of every list
 abbrev pub Most-is-largest : Type 0
 Most-is-largest = (ms : List Member) → Largest ms
 
--- a turn by m is a permutation of the units below w: it stays below w, a turn by the rest undoes it, and no sum over all units changes
-pub record Permutes (w m : ℕ) : Type 0 where
-  pub below : (u : ℕ) → u < w → turned w m u < w
-  pub back : (u : ℕ) → u < w → turned w (w - m) (turned w m u) ≡ u
-  pub forth : (u : ℕ) → u < w → turned w m (turned w (w - m) u) ≡ u
-  pub sums : (f : ℕ → ℕ) → span (λ u. f (turned w m u)) w ≡ span f w
+-- a turn permutes the units below w: each goes to one of them, a turn by the rest of w undoes it, and no sum over all units changes
+pub record Permutes (w by : ℕ) : Type 0 where
+  pub below : (u : ℕ) → u < w → turned w by u < w
+  pub back : (u : ℕ) → u < w → turned w (w - by) (turned w by u) ≡ u
+  pub forth : (u : ℕ) → u < w → turned w by (turned w (w - by) u) ≡ u
+  pub sums : (f : ℕ → ℕ) → span (λ u. f (turned w by u)) w ≡ span f w
 
--- so is each turn by at most w
+-- every turn by at most w permutes the units below w
 abbrev pub Turn-permutes : Type 0
-Turn-permutes = (w m : ℕ) → m ≤ w → Permutes w m
+Turn-permutes = (w by : ℕ) → by ≤ w → Permutes w by
 
--- how many units there can be: each cent at risk gives at most the largest weight, and a society never has too many
+-- how many units a list can have: for each cent at risk at most the largest weight; below 2^50, and twice as many below 2^63, where no
+-- more cents are at risk than 64 members can put in; and at most 64 members put in no more
 pub record Bounded (ms : List Member) : Type 0 where
-  pub each : (k : ℕ) → units (member-of ms k) < 2 ^ 50
   pub cents : whole ms ≤ most-weight * all-at-risk ms
-  pub few : length ms ≤ most-members → (whole ms < 2 ^ 50) × (2 * whole ms < 2 ^ 63)
+  pub small : all-at-risk ms ≤ most-members * most-stake → (whole ms < unit-limit) × (2 * whole ms < 2 ^ 63)
+  pub few : length ms ≤ most-members → all-at-risk ms ≤ most-members * most-stake
 
--- so it is in every list
+-- the units of every list are bounded so
 abbrev pub Units-bounded : Type 0
 Units-bounded = (ms : List Member) → Bounded ms

@@ -1,5 +1,5 @@
+pub mod Answers
 pub mod Circle
 pub mod Laws
 pub mod Living
-pub mod Measures
 pub mod Sums

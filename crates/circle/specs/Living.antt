@@ -1,4 +1,4 @@
--- The circle when members without units are taken out of the list. Assumes nothing: these are definitions and a statement.
+-- The circle when members without units are taken out of the list. Assumes nothing: these are definitions and statements.
 use mathlib.Core.Path.{_≡_}
 use mathlib.Core.Bool.{cond}
 use mathlib.Core.List.{List, [], _∷_}
@@ -12,19 +12,19 @@ unfoldable pub living : List Member → List Member
 living [] = []
 living (m ∷ ms) = cond (m .alive) (m ∷ living ms) (living ms)
 
--- where the i-th of the living stands among all
+-- the place in the list of the i-th of those who live; past the last of them, a place past the list's end
 unfoldable pub stood : List Member → ℕ → ℕ
 stood [] i = i
 stood (m ∷ ms) zero = cond (m .alive) 0 (suc (stood ms 0))
 stood (m ∷ ms) (suc i) = cond (m .alive) (suc (stood ms i)) (suc (stood ms (suc i)))
 
--- all but the member at place k
+-- all but the member at place k, in their order
 unfoldable pub without : ℕ → List Member → List Member
 without k [] = []
 without zero (m ∷ ms) = ms
 without (suc k) (m ∷ ms) = m ∷ without k ms
 
--- where the i-th of the others stands among all
+-- the place in the list of the i-th of all but the member at place k
 unfoldable pub skip : ℕ → ℕ → ℕ
 skip zero i = suc i
 skip (suc k) zero = 0
@@ -35,18 +35,19 @@ pub record Same-circle (at : ℕ → ℕ) (ns ms : List Member) : Type 0 where
   -- as many units, and the same largest holding
   pub size : whole ns ≡ whole ms
   pub largest : most ns ≡ most ms
-  -- each member stands at a place of its own, and is the same there, its number too
+  -- the members of ns stand in ms in the same order, each is the same there, and its units start at the same unit
   pub inside : (i : ℕ) → i < length ns → at i < length ms
-  pub apart : (i j : ℕ) → i < length ns → j < length ns → at i ≡ at j → i ≡ j
+  pub order : (i j : ℕ) → i < j → j < length ns → at i < at j
   pub member : (i : ℕ) → i < length ns → member-of ns i ≡ member-of ms (at i)
-  -- its units start at the same unit, and each unit is the same member's
   pub starts : (i : ℕ) → i < length ns → start ns i ≡ start ms (at i)
-  pub owned : (u : ℕ) → u < whole ms → owner ms u ≡ at (owner ns u)
+  -- each unit has the same owner, by its place and by all that it is, its number too
+  pub place : (u : ℕ) → u < whole ms → owner ms u ≡ at (owner ns u)
+  pub name : (u : ℕ) → u < whole ms → member-of ms (owner ms u) ≡ member-of ns (owner ns u)
 
--- a member without units changes nothing
-abbrev pub Idle-changes-nothing : Type 0
-Idle-changes-nothing = (k : ℕ) (ms : List Member) → units (member-of ms k) ≡ 0 → Same-circle (skip k) (without k ms) ms
+-- taking out a member without units changes nothing
+abbrev pub No-units-no-change : Type 0
+No-units-no-change = (k : ℕ) (ms : List Member) → units (member-of ms k) ≡ 0 → Same-circle (skip k) (without k ms) ms
 
--- nor do all the dead together
+-- nor does taking out all the dead
 abbrev pub Dead-change-nothing : Type 0
 Dead-change-nothing = (ms : List Member) → Same-circle (stood ms) (living ms) ms

@@ -1,4 +1,4 @@
-// The size of a circle and its largest holding.
+// A circle of units, by its two numbers. Its methods stand in a file of their own, since they cite definitions that speak of it.
 ghost use Prim.Native.Nat.{_≤_, _<_};
 ghost use Rattle.circle.specs.Circle.{unit-limit};
 
@@ -6,10 +6,10 @@ mod methods;
 
 #[derive(Clone, Copy, PartialEq, Eq, Debug)]
 pub struct Circle {
-    // all units together
+    // all units together, W in the rules
     pub size: u64,
-    // the largest number of units that one member has
+    // the largest number of units that one member has, M in the rules
     pub largest: u64,
-    ghost held: { largest ≤ size },
+    ghost within: { largest ≤ size },
     ghost bounded: { size < unit-limit },
 }

@@ -1,28 +1,24 @@
 // How a circle is measured, and its turn.
 ghost use mathlib.Core.Path.{_≡_};
-ghost use mathlib.Core.Bool.{cond};
-ghost use lib.Dec.{ltb};
-ghost use Rattle.std.specs.declared.option.Option.the-variants.{Some, None};
-ghost use Rattle.circle.specs.Circle.{turned};
+ghost use Rattle.circle.specs.Answers.{circle-answer, turn-answer, numbers, Told-by-numbers};
 ghost use Rattle.circle.specs.Laws.{Units-bounded, Most-is-largest, Turn-permutes};
-ghost use Rattle.circle.specs.Living.{Idle-changes-nothing, Dead-change-nothing};
-ghost use Rattle.circle.specs.Measures.{measures, measured, Told-by-measures};
+ghost use Rattle.circle.specs.Living.{No-units-no-change, Dead-change-nothing};
 use super::Circle;
 use crate::holding::units;
 use members::Member;
 
-// A circle has fewer units than this.
+// No circle of so many units or more is made.
 const UNIT_LIMIT: u64 = 1 << 50;
 
 impl Circle {
-    // The circle of these members, or none where they have too many units. 64 members never have.
+    // The circle of these members, or none where they have too many units, which at most 64 members never have.
     pub fn of(members: &[Member]) -> Option<Circle>
-        ensures value { λ r. ⌜ measured r ≡ measures (now (members .entry)) ⌝ }
-        ensures told { λ _. ⌜ Told-by-measures ⌝ }
+        ensures value { λ r. ⌜ numbers r ≡ circle-answer (now (members .entry)) ⌝ }
+        ensures told { λ _. ⌜ Told-by-numbers ⌝ }
         ensures bounded { λ _. ⌜ Units-bounded ⌝ }
         ensures largest { λ _. ⌜ Most-is-largest ⌝ }
-        ensures idle { λ _. ⌜ Idle-changes-nothing ⌝ }
-        ensures dead { λ _. ⌜ Dead-change-nothing ⌝ }
+        ensures one_out { λ _. ⌜ No-units-no-change ⌝ }
+        ensures dead_out { λ _. ⌜ Dead-change-nothing ⌝ }
     {
         let mut size = 0;
         let mut largest: u64 = 0;
@@ -39,7 +35,7 @@ impl Circle {
 
     // A unit turned by the largest holding, or none where the circle has no such unit.
     pub fn turned(&self, unit: u64) -> Option<u64>
-        ensures value { λ r. ⌜ r ≡ cond (ltb unit (now (self .entry) .size)) (Some (turned (now (self .entry) .size) (now (self .entry) .largest) unit)) None ⌝ }
+        ensures value { λ r. ⌜ r ≡ turn-answer (now (self .entry)) unit ⌝ }
         ensures permutes { λ _. ⌜ Turn-permutes ⌝ }
     {
         if unit >= self.size {

@@ -5,14 +5,14 @@ use Rattle.std.proofs.shelf.Ways.{tells}
 use Rattle.std.specs.declared.option.Option.the-variants.{Some, None}
 use Rattle.circle.specs.Circle.{unit-limit, whole, most}
 use Rattle.circle.proofs.Bounds.{units-bounded}
-use Rattle.circle.proofs.Living.{idle-changes-nothing, dead-change-nothing}
-use Rattle.circle.proofs.Measures.{told-by-measures}
+use Rattle.circle.proofs.Living.{no-units-no-change, dead-change-nothing}
+use Rattle.circle.proofs.Numbers.{told-by-numbers}
 use Rattle.circle.proofs.Owners.{most-is-largest, most-whole}
 use Rattle.circle.proofs.Walks.{Next, whole-next, most-next, whole-done, most-done}
 use Rattle.circle.proofs.circle.Circle.of.Needs as need
 use Rattle.circle.proofs.circle.Circle.of.Needs.{After-units-held, After-loop-member}
 
--- in each turn the walk goes over the next member
+-- at each step the walk goes over the next member
 next : (c : After-units-held) → Next (c .args .members .now) (c .loop-member .member-index) (c .units-held .result)
 next c = record { member = c .member-item .result; inside = c .loop-member-test .taken; here = c .member-item .is; holds = c .units-held .ensures .value }
 
@@ -26,7 +26,7 @@ largest-is c = omega (arith, most-done (c .args .members .now) (c .loop-member .
 pub returns-then-size-ge-UNIT-LIMIT : need.returns-then-size-ge-UNIT-LIMIT
 returns-then-size-ge-UNIT-LIMIT c =
     let left = whole-next (next (need.at·returns-then-size-ge-UNIT-LIMIT c .After-units-held)) in
-    record { value = grind (arith, tells); told = told-by-measures; bounded = units-bounded; largest = most-is-largest; idle = idle-changes-nothing; dead = dead-change-nothing }
+    record { value = grind (arith, tells); told = told-by-numbers; bounded = units-bounded; largest = most-is-largest; one-out = no-units-no-change; dead-out = dead-change-nothing }
 
 pub loop-member-again : need.loop-member-again
 loop-member-again c =
@@ -41,9 +41,9 @@ returns c =
     let end = need.at·returns c .After-loop-member in
     record {
       value = ap₂ (λ a b. Some (a, b)) (size-is end) (largest-is end) ∙ cond-below (whole (c .args .members .now)) unit-limit _ None (omega (arith, size-is end));
-      told = told-by-measures;
+      told = told-by-numbers;
       bounded = units-bounded;
       largest = most-is-largest;
-      idle = idle-changes-nothing;
-      dead = dead-change-nothing;
+      one-out = no-units-no-change;
+      dead-out = dead-change-nothing;
     }

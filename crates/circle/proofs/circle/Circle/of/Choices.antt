@@ -1,5 +1,5 @@
 use mathlib.Core.Path.{_≡_}
-use Prim.Native.Nat.{_+_, _≤_, _<_, max}
+use Prim.Native.Nat.{_+_, _<_, max}
 use lib.ListN.{drop}
 use Rattle.circle.specs.Circle.{unit-limit, whole, most}
 use Rattle.circle.proofs.circle.Circle.of.Given as given

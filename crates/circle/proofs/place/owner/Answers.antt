@@ -2,10 +2,10 @@ use native.Mathlib.Omega.{arith}
 use Rattle.std.proofs.shelf.Ways.{tells}
 use Rattle.circle.proofs.Owners.{one-owner, owns-its-units}
 use Rattle.circle.proofs.Walks.{Next, whole-next, owner-next, owner-further, whole-done}
-use Rattle.circle.proofs.holding.owner.Needs as need
-use Rattle.circle.proofs.holding.owner.Needs.{After-units-held}
+use Rattle.circle.proofs.place.owner.Needs as need
+use Rattle.circle.proofs.place.owner.Needs.{After-units-held}
 
--- in each turn the walk goes over the next member
+-- at each step the walk goes over the next member
 next : (c : After-units-held) → Next (c .args .members .now) (c .loop-place .place) (c .units-held .result)
 next c = record { member = c .index-members-place .result; inside = c .loop-place-test .taken; here = c .index-members-place .is; holds = c .units-held .ensures .value }
 

@@ -1,8 +1,8 @@
 use mathlib.Core.Path.{_∙_}
 use borrow.Author.Needs.{needs}
-use Rattle.circle.proofs.Measures.{start-none, start-some}
+use Rattle.circle.proofs.Numbers.{start-none, start-some}
 use Rattle.circle.proofs.Owners.{start-take, end-to-end}
-use Rattle.circle.proofs.holding.start.Needs as need
+use Rattle.circle.proofs.place.start.Needs as need
 
 pub returns-then-place-members : need.returns-then-place-members
 returns-then-place-members c = record { value = search needs; filled = end-to-end }

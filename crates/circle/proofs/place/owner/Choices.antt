@@ -2,7 +2,7 @@ use mathlib.Core.Path.{_≡_}
 use Prim.Native.Nat.{_+_}
 use lib.ListN.{drop}
 use Rattle.circle.specs.Circle.{whole, owner}
-use Rattle.circle.proofs.holding.owner.Given as given
+use Rattle.circle.proofs.place.owner.Given as given
 
 abbrev pub Inv-loop-place : given.InvT-loop-place
 Inv-loop-place l =
