@@ -1,7 +1,9 @@
-// Small circles and the edges of large ones, run.
+// Small circles against a plain reading of the rules, and the edges of large ones, run.
 use crate::circle::*;
 use crate::holding::*;
+use crate::place::*;
 use members::Member;
+use std::alloc::AllocError;
 use std::alloc::Global;
 use std::test::*;
 
@@ -23,7 +25,7 @@ fn died(mut member: Member) -> Member {
     member
 }
 
-fn measured(members: &[Member]) -> Result<Circle, Fail> {
+fn circle_of(members: &[Member]) -> Result<Circle, Fail> {
     let Some(circle) = Circle::of(members) else {
         return Err(Fail::new("too many units"));
     };
@@ -35,7 +37,7 @@ fn measured(members: &[Member]) -> Result<Circle, Fail> {
 fn seams(rt: LibcRuntime) -> Result<(), Fail> {
     let society = society(rt.alloc(), &[(2, 5), (3, 4), (1, 9)])?;
     let members = society.as_slice();
-    let circle = measured(members)?;
+    let circle = circle_of(members)?;
     check_eq((circle.size, circle.largest), (31, 12))?;
     for (place, from) in [(0, Some(0)), (1, Some(10)), (2, Some(22)), (3, None)] {
         check_eq(start(members, place), from)?;
@@ -71,7 +73,7 @@ fn seams(rt: LibcRuntime) -> Result<(), Fail> {
 #[test]
 fn empty() -> Result<(), Fail> {
     for members in [&[], &[Member::nobody(); 3][0..3]] {
-        let circle = measured(members)?;
+        let circle = circle_of(members)?;
         check_eq((circle.size, circle.largest), (0, 0))?;
         check_eq(circle.turned(0), None)?;
         check_eq(owner(members, 0), None)?;
@@ -97,7 +99,9 @@ fn dead(rt: LibcRuntime) -> Result<(), Fail> {
     all[1] = died(all[1]);
     let members = all.as_slice();
     check_eq(units(&members[1]), 0)?;
-    check_eq(measured(members)?, measured(&others)?)?;
+    let circle = circle_of(members)?;
+    check_eq((circle.size, circle.largest), (19, 10))?;
+    check_eq(circle, circle_of(&others)?)?;
     check_eq(start(members, 1), Some(10))?;
     check_eq(start(members, 2), start(&others, 1))?;
     for unit in 0..20 {
@@ -106,55 +110,76 @@ fn dead(rt: LibcRuntime) -> Result<(), Fail> {
     check_eq(owner(members, 10), Some(2))
 }
 
-// A society's largest circle, and circles of just under and of exactly 2^50 units.
+// A society's largest circle; one of 2^50 units less one; and too many units, which still have starts before and owners.
 #[test]
 fn limits(rt: LibcRuntime) -> Result<(), Fail> {
-    let mut entries = [(100_000, 100_000_000); 113];
+    let mut entries = [(100_000, 100_000_000); 115];
     let largest = society(rt.alloc(), &entries[0..64])?;
-    let circle = measured(largest.as_slice())?;
+    let circle = circle_of(largest.as_slice())?;
     check_eq(circle.size, 640_000_000_000_000)?;
     check_eq(circle.largest, 10_000_000_000_000)?;
     check_eq(start(largest.as_slice(), 63), Some(630_000_000_000_000))?;
     entries[112] = (65_536, 90_025_433);
-    let under = society(rt.alloc(), &entries)?;
-    check_eq(measured(under.as_slice())?.size, (1 << 50) - 65_536)?;
-    entries[112] = (65_536, 90_025_434);
-    let exactly = society(rt.alloc(), &entries)?;
-    check(Circle::of(exactly.as_slice()).is_none())
+    entries[113] = (65_535, 1);
+    let below = society(rt.alloc(), &entries[0..114])?;
+    check_eq(circle_of(below.as_slice())?.size, (1 << 50) - 1)?;
+    entries[113] = (65_536, 1);
+    let above = society(rt.alloc(), &entries)?;
+    let members = above.as_slice();
+    check(members.len() == 115)?;
+    check(Circle::of(&members[0..114]).is_none())?;
+    check_eq(start(members, 113), Some((1 << 50) - 65_536))?;
+    check_eq(start(members, 114), None)?;
+    check_eq(owner(members, (1 << 50) - 1), Some(113))?;
+    check_eq(owner(members, 1 << 50), Some(114))
 }
 
-// One more at a place, which was below the bound.
-fn tally(counts: &mut [u64], place: usize, bound: u64) -> Result<(), Fail> {
-    let slot = counts.get_mut(place).ok_or("no such place")?;
-    check(*slot < bound)?;
-    *slot = slot.saturating_add(1);
-    Ok(())
-}
-
-// Goes round the circle, and counts for each place the units that it owns and for each unit those that are turned into it, one at most.
-fn go_round(
-    members: &[Member],
-    circle: Circle,
-    owned: &mut [u64],
-    reached: &mut [u64],
-) -> Result<(), Fail> {
-    for unit in 0..circle.size {
-        let place = owner(members, unit).ok_or("no owner")?;
-        tally(owned, place, u64::MAX)?;
-        let turned = circle.turned(unit).ok_or("no such unit")?;
-        check(turned < circle.size)?;
-        tally(reached, usize::try_from(turned)?, 1)?;
+// The circle as the rules tell it: for each unit, in their order, the place of the member that it belongs to.
+fn laid_out(heap: Global, members: &[Member]) -> Result<Vec<usize>, AllocError> {
+    let mut owners = Vec::new(heap);
+    for (place, member) in members.iter().enumerate() {
+        if member.alive {
+            for _ in 0..member.weight {
+                for _ in 0..member.stake {
+                    owners.push(place)?;
+                }
+            }
+        }
     }
-    Ok(())
+    Ok(owners)
 }
 
-// Each member owns as many units as it has.
-fn owns(members: [Member; 3]) -> Result<(), Fail> {
-    let mut owned = [0; 3];
-    let mut reached = [0; 27];
-    go_round(&members, measured(&members)?, &mut owned, &mut reached)?;
-    for place in 0..3 {
-        check_eq(owned[place], units(&members[place]))?;
+// How many of them belong to places from one on and below another.
+fn count(owners: &[usize], from: usize, to: usize) -> u64 {
+    let mut found: u64 = 0;
+    for place in owners {
+        if from <= *place && *place < to {
+            found = found.saturating_add(1);
+        }
+    }
+    found
+}
+
+// Every function answers what is found in the circle as it is laid out.
+fn agrees(heap: Global, members: &[Member]) -> Result<(), Fail> {
+    let owners = laid_out(heap, members)?;
+    let owners = owners.as_slice();
+    let circle = circle_of(members)?;
+    let size = owners.len() as u64;
+    let mut largest: u64 = 0;
+    for (place, member) in members.iter().enumerate() {
+        let held = count(owners, place, place.saturating_add(1));
+        check_eq(units(member), held)?;
+        check_eq(start(members, place), Some(count(owners, 0, place)))?;
+        largest = largest.max(held);
+    }
+    check_eq((circle.size, circle.largest), (size, largest))?;
+    check_eq(owner(members, size), None)?;
+    for (unit, place) in owners.iter().enumerate() {
+        let unit = unit as u64;
+        check_eq(owner(members, unit), Some(*place))?;
+        let moved = unit.saturating_add(largest).checked_rem(size);
+        check_eq(circle.turned(unit), moved)?;
     }
     Ok(())
 }
@@ -169,11 +194,12 @@ fn kind(number: u8, kind: u32) -> Result<Member, Fail> {
 
 // Every society of three such members.
 #[test]
-fn rounds() -> Result<(), Fail> {
+fn small(rt: LibcRuntime) -> Result<(), Fail> {
     for a in 0..18 {
         for b in 0..18 {
             for c in 0..18 {
-                owns([kind(0, a)?, kind(1, b)?, kind(2, c)?])?;
+                let members = [kind(0, a)?, kind(1, b)?, kind(2, c)?];
+                agrees(rt.alloc(), &members)?;
             }
         }
     }
