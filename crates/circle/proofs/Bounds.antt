@@ -3,14 +3,14 @@ use mathlib.Core.Path.{_≡_}
 use mathlib.Core.Bool.{true, false}
 use mathlib.Core.List.{List, [], _∷_}
 use mathlib.Core.Logic.{⊎-elim}
-use Prim.Native.Nat.{_*_, _≤_, _<_}
+use Prim.Native.Nat.{_*_, _≤_}
 use native.Mathlib.Omega.{arith}
 use lib.ListN.{length}
 use Rattle.std.proofs.shelf.Bits.{mul-le}
 use Rattle.std.proofs.shelf.Tests.{cases-bool}
 use Rattle.members.specs.Limits.{most-weight, most-stake}
 use Rattle.members.specs.declared.member.Member.{Member}
-use Rattle.circle.specs.Circle.{unit-limit, at-risk, all-at-risk, units, whole}
+use Rattle.circle.specs.Circle.{at-risk, all-at-risk, units, whole}
 use Rattle.circle.specs.Laws.{Units-bounded}
 
 -- the living risk their stake and the dead nothing
@@ -42,9 +42,6 @@ units-living m e = let z = at-risk-living m e in rw z
 units-le : (m : Member) → units m ≤ most-weight * at-risk m
 unfolding units
 units-le m = mul-le (m .weight) (at-risk m) most-weight (at-risk m) (m .weighs .1) (omega arith)
-
-pub units-below : (m : Member) → units m < unit-limit
-units-below m = omega (arith, units-le m, at-risk-le m)
 
 whole-le : (ms : List Member) → whole ms ≤ most-weight * all-at-risk ms
 unfolding whole all-at-risk

@@ -1,16 +1,12 @@
--- The two numbers of a circle. Assumes nothing.
+-- A circle is told by its two numbers. Assumes nothing.
 use mathlib.Core.Path.{_≡_, refl, ap}
 use mathlib.Core.HLevel.{isProp→PathP}
-use mathlib.Core.List.{List}
 use Prim.Native.Nat.{ℕ, _≤_, _<_}
 use native.Mathlib.Bridge.{le-prop}
 use native.Mathlib.Omega.{arith}
-use lib.ListN.{length}
-use Rattle.std.proofs.shelf.Ways.{tells}
 use Rattle.std.specs.declared.option.Option.the-variants.{Some, None}
-use Rattle.members.specs.declared.member.Member.{Member}
-use Rattle.circle.specs.Circle.{unit-limit, whole, start}
-use Rattle.circle.specs.Answers.{circle-answer, start-answer, Told-by-numbers}
+use Rattle.circle.specs.Circle.{unit-limit}
+use Rattle.circle.specs.Answers.{Told-by-numbers}
 use Rattle.circle.specs.declared.circle.Circle.{Circle}
 
 -- circles are the same once their two numbers are: a bound has one proof
@@ -29,11 +25,3 @@ told-by-numbers (Some c) None e = let z : _≡_ {A = ℕ} 0 1 = cc in absurd (om
 told-by-numbers (Some c) (Some d) e =
     let p : _≡_ {A = ℕ × ℕ} (c .size, c .largest) (d .size, d .largest) = cc in
     ap Some (same-numbers c d (ap (λ x. x .0) p) (ap (λ x. x .1) p))
-
--- the start of a member's units is the size of the circle of those before it, where they have not too many units
-module _ (ms before : List Member) (place : ℕ) (is : start ms place ≡ whole before) where
-  pub start-none : None ≡ circle-answer before → None ≡ start-answer ms place
-  start-none none = grind (arith, tells)
-
-  pub start-some : (size largest : ℕ) → place < length ms → Some (size, largest) ≡ circle-answer before → Some size ≡ start-answer ms place
-  start-some size largest inside some = grind (arith, tells)
