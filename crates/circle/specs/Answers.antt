@@ -32,6 +32,6 @@ turn-answer c u = cond (ltb u (c .size)) (Some (turned (c .size) (c .largest) u)
 abbrev pub numbers : Option Circle → Option (ℕ × ℕ)
 numbers r = mapped (λ c. (c .size, c .largest)) r
 
--- they tell circles apart
+-- the two numbers tell circles apart
 abbrev pub Told-by-numbers : Type 0
 Told-by-numbers = (r s : Option Circle) → numbers r ≡ numbers s → r ≡ s

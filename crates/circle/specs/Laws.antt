@@ -43,11 +43,13 @@ pub record Permutes (w by : ℕ) : Type 0 where
 abbrev pub Turn-permutes : Type 0
 Turn-permutes = (w by : ℕ) → by ≤ w → Permutes w by
 
--- how many units a list can have: for each cent at risk at most the largest weight; below 2^50, and twice as many below 2^63, where no
--- more cents are at risk than 64 members can put in; and at most 64 members put in no more
+-- how many units a list of members can have
 pub record Bounded (ms : List Member) : Type 0 where
+  -- a cent at risk gives no more units than the largest weight
   pub cents : whole ms ≤ most-weight * all-at-risk ms
+  -- W is below 2^50, and twice W below 2^63, where no more is at risk than the most that a society's members can put in
   pub small : all-at-risk ms ≤ most-members * most-stake → (whole ms < unit-limit) × (2 * whole ms < 2 ^ 63)
+  -- and no more is at risk where there are no more members than in a society
   pub few : length ms ≤ most-members → all-at-risk ms ≤ most-members * most-stake
 
 -- the units of every list are bounded so

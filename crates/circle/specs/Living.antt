@@ -48,6 +48,6 @@ pub record Same-circle (at : ℕ → ℕ) (ns ms : List Member) : Type 0 where
 abbrev pub No-units-no-change : Type 0
 No-units-no-change = (k : ℕ) (ms : List Member) → units (member-of ms k) ≡ 0 → Same-circle (skip k) (without k ms) ms
 
--- nor does taking out all the dead
+-- taking out all the dead changes nothing
 abbrev pub Dead-change-nothing : Type 0
 Dead-change-nothing = (ms : List Member) → Same-circle (stood ms) (living ms) ms

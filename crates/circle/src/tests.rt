@@ -110,7 +110,7 @@ fn dead(rt: LibcRuntime) -> Result<(), Fail> {
     check_eq(owner(members, 10), Some(2))
 }
 
-// A society's largest circle; one of 2^50 units less one; and too many units, which still have starts before and owners.
+// A society's largest circle; one of 2^50 units less one; and 2^50 units, of which no circle is made, but owners and the starts below are told.
 #[test]
 fn limits(rt: LibcRuntime) -> Result<(), Fail> {
     let mut entries = [(100_000, 100_000_000); 115];
