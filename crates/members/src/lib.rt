@@ -1,4 +1,6 @@
 // Members, the table of weights, and the reader of a book's head and of its lines.
+#![tactic(auto)]
+
 mod head;
 mod limits;
 mod line;

@@ -1,4 +1,6 @@
 // Sharing out the stake of a member that died.
+#![tactic(auto)]
+
 mod dealing;
 mod estate;
 #[cfg(test)]

@@ -1,4 +1,6 @@
 // The book of a tontine: reads a book from standard input and prints what it comes to.
+#![tactic(auto)]
+
 use members::{Member, Refusal, Room, read_head};
 use std::env;
 use std::io::Read;

@@ -17,12 +17,12 @@ module _ (ms before : List Member) (place : ℕ) (is : start ms place ≡ whole 
 pub returns-then-place-members : goal.returns-then-place-members
 returns-then-place-members c = record { value = search rules; filled = end_to_end }
 
-pub returns-in-err-before : goal.returns-in-err-before
-returns-in-err-before c =
+pub returns-in_err-before : goal.returns-in_err-before
+returns-in_err-before c =
     let is = start-take c.args.members.now c.args.place in
-    record { value = c.from-residual.ensures ∙ none_before c.args.members.now _ c.args.place is c.in-err-before.ensures.value; filled = end_to_end }
+    record { value = c.from_residual.ensures ∙ none_before c.args.members.now _ c.args.place is c.in_err-before.ensures.value; filled = end_to_end }
 
 pub returns : goal.returns
 returns c =
     let is = start-take c.args.members.now c.args.place in
-    record { value = size_before c.args.members.now _ c.args.place is _ _ c.if-place-members.false c.in-ok-before.ensures.value; filled = end_to_end }
+    record { value = size_before c.args.members.now _ c.args.place is _ _ c.if-place-members.false c.in_ok-before.ensures.value; filled = end_to_end }

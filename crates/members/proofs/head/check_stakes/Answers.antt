@@ -7,11 +7,11 @@ use Rattle.members.proofs.head.check_stakes.Goals as goal
 pub loop-member-init : goal.loop-member-init
 loop-member-init c = passed_none _ _
 
-pub returns-in-default : goal.returns-in-default
-returns-in-default c = at_failed _ _ Stake _ c.loop-member.member (omega arith) (ap good_stake (sym c.stake-of.ensures) ∙ held_back _ _ c.in-default.ensures) c.loop-member.invariant
+pub returns-in_default : goal.returns-in_default
+returns-in_default c = at_failed _ _ Stake _ c.loop-member.member (omega arith) (ap good_stake (sym c.stake_of.ensures) ∙ held_back _ _ c.in_default.ensures) c.loop-member.invariant
 
 pub loop-member-preserved : goal.loop-member-preserved
-loop-member-preserved c = passed_more _ _ _ (omega arith) (ap good_stake (sym c.stake-of.ensures) ∙ (handed_on _ _ _ c.in-Some.ensures).0) c.loop-member.invariant
+loop-member-preserved c = passed_more _ _ _ (omega arith) (ap good_stake (sym c.stake_of.ensures) ∙ (handed_on _ _ _ c.in-Some.ensures).0) c.loop-member.invariant
 
 pub returns : goal.returns
 returns c = at_end _ _ Stake _ _ c.loop-member.member (omega arith) refl c.loop-member.invariant

@@ -8,8 +8,8 @@ use Rattle.members.proofs.line.count_lines.Goals.{In-loop-left}
 left_over : (c : In-loop-left) → 0 < length c.loop-left.left.now
 left_over c = omega (arith, false-eqb _ 0 c.loop-left-test.ensures)
 
-pub overflow-add-count : goal.overflow-add-count
-overflow-add-count c = omega (arith, count_le c.args.part.now, count_some c.loop-left.left.now (left_over c))
+pub overflow_add-count : goal.overflow_add-count
+overflow_add-count c = omega (arith, count_le c.args.part.now, count_some c.loop-left.left.now (left_over c))
 
 pub loop-left-smaller : goal.loop-left-smaller
 loop-left-smaller c = shorter c.loop-left.left.now _ (sym c.in-Some.ensures)
@@ -20,16 +20,16 @@ loop-left-preserved c = omega (arith, count_more c.loop-left.left.now _ (sym c.i
 pub returns-after-loop-left : goal.returns-after-loop-left
 returns-after-loop-left c = record {
   value = omega (arith, count_none c.loop-left.left.now (true-eqb _ 0 c.loop-left-test.ensures));
-  line-back = line_reads_back;
+  line_back = line_reads_back;
   line_bytes = line_is_its_bytes;
   back = lines_read_back;
   bytes = lines_are_their_bytes;
 }
 
-pub returns-in-default : goal.returns-in-default
-returns-in-default c = record {
-  value = omega (arith, count_last c.loop-left.left.now (left_over (goal.at.returns-in-default c).In-loop-left) (sym c.in-default.ensures));
-  line-back = line_reads_back;
+pub returns-in_default : goal.returns-in_default
+returns-in_default c = record {
+  value = omega (arith, count_last c.loop-left.left.now (left_over (goal.at.returns-in_default c).In-loop-left) (sym c.in_default.ensures));
+  line_back = line_reads_back;
   line_bytes = line_is_its_bytes;
   back = lines_read_back;
   bytes = lines_are_their_bytes;

@@ -21,8 +21,8 @@ loop-place-init c =
     let below = turned_below e.circle.size e.circle.largest _ e.circle.within (e.within c.cents.cent c.cents-test.true) in
     (refl, omega (arith, below), omega (arith, ap (owner c.args.members.now) c.landing-left.ensures))
 
-pub overflow-add-cents : goal.overflow-add-cents
-overflow-add-cents c =
+pub overflow_add-cents : goal.overflow_add-cents
+overflow_add-cents c =
     let place = c.loop-place.place in
     omega (
       arith,

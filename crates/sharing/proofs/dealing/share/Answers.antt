@@ -10,13 +10,13 @@ use Rattle.sharing.proofs.dealing.share.Goals as goal
 pub returns-then-cents-count : goal.returns-then-cents-count
 returns-then-cents-count c = record { value = search rules; cents = search rules; others = tt; death = one_death }
 
-pub returns-in-err-estate : goal.returns-in-err-estate
-returns-in-err-estate c = record { value = search rules; cents = search rules; others = search rules; death = one_death }
+pub returns-in_err-estate : goal.returns-in_err-estate
+returns-in_err-estate c = record { value = search rules; cents = search rules; others = search rules; death = one_death }
 
 pub returns : goal.returns
 returns c =
     let ms = c.args.members.now in
-    let estate = c.in-ok-estate.ensures in
+    let estate = c.in_ok-estate.ensures in
     let rest : post_of 0 (length ms - 0) c.args.cents.now ≡ drop (length ms) c.args.cents.now = search (rules, overwrites) in
     let after = ap₂ (λ front back. front ++ back) (c.deal.ensures ∙ dealt_given ms c.args.dead c.args.word _ estate.left) rest in
     record {

@@ -21,18 +21,18 @@ size_is c = omega (arith, whole_done c.args.members.now c.loop-member.member-ind
 largest_is : (c : After-loop-member) → c.loop-member.largest ≡ most c.args.members.now
 largest_is c = omega (arith, most_done c.args.members.now c.loop-member.member-index c.loop-member-test.false)
 
-pub returns-then-size-ge-UNIT-LIMIT : goal.returns-then-size-ge-UNIT-LIMIT
-returns-then-size-ge-UNIT-LIMIT c =
-    let left = whole_next (next (goal.at.returns-then-size-ge-UNIT-LIMIT c).After-units-held) in
-    record { value = grind (arith, nat_tests); told = told_by_numbers; bounded = units_bounded; largest = most_is_largest; one_out = no_units_no_change; dead-out = dead_change_nothing }
+pub returns-then-size-ge-UNIT_LIMIT : goal.returns-then-size-ge-UNIT_LIMIT
+returns-then-size-ge-UNIT_LIMIT c =
+    let left = whole_next (next (goal.at.returns-then-size-ge-UNIT_LIMIT c).After-units-held) in
+    record { value = grind (arith, nat_tests); told = told_by_numbers; bounded = units_bounded; largest = most_is_largest; one_out = no_units_no_change; dead_out = dead_change_nothing }
 
 pub loop-member-preserved : goal.loop-member-preserved
 loop-member-preserved c =
     let further = next (goal.at.loop-member-preserved c).After-units-held in
     (omega (arith, whole_next further), omega (arith, most_next further), omega arith)
 
-pub invariant-of-result : goal.invariant-of-result
-invariant-of-result c = (omega (arith, size_is c, largest_is c, most_whole c.args.members.now), (omega arith, tt))
+pub invariant_of-result : goal.invariant_of-result
+invariant_of-result c = (omega (arith, size_is c, largest_is c, most_whole c.args.members.now), (omega arith, tt))
 
 pub returns : goal.returns
 returns c =
@@ -43,5 +43,5 @@ returns c =
       bounded = units_bounded;
       largest = most_is_largest;
       one_out = no_units_no_change;
-      dead-out = dead_change_nothing;
+      dead_out = dead_change_nothing;
     }

@@ -4,16 +4,16 @@ use Rattle.circle.proofs.Bounds.{at_risk_living}
 use Rattle.sharing.proofs.Estates.{living_in, found, start_lost, all_found, cent_within}
 use Rattle.sharing.proofs.estate.Estate.of.Goals as goal
 
-pub returns-in-default-start : goal.returns-in-default-start
-returns-in-default-start c =
+pub returns-in_default-start : goal.returns-in_default-start
+returns-in_default-start c =
     let ms = c.args.members.now in
     let member = found ms c.args.dead _ c.in-Some.ensures in
-    let many = start_lost ms c.args.dead (living_in ms c.args.dead member.0) c.in-default-start.ensures.value in
+    let many = start_lost ms c.args.dead (living_in ms c.args.dead member.0) c.in_default-start.ensures.value in
     let weight = ap (λ m. m.weight) member.1 in
     record { value = grind (arith, nat_tests); left = tt }
 
-pub invariant-of-result : goal.invariant-of-result
-invariant-of-result c =
+pub invariant_of-result : goal.invariant_of-result
+invariant_of-result c =
     let f = all_found c.args.members.now c.args.dead _ _ _ _ c.in-Some.ensures c.in-Some-start.ensures.value c.in-Some-of.ensures.value in
     (λ n h. omega (arith, cent_within c.args.members.now c.args.dead c.args.word n f.alive (omega arith) (omega arith), ap (λ w. n * w) (c.from-weight.ensures ∙ f.weight)), tt)
 
