@@ -1,9 +1,11 @@
 // The book of a tontine: reads a book from standard input and prints what it comes to.
 #![tactic(auto)]
 
+use anyhow::{bail, ensure};
 use members::{Member, Refusal, Room, read_head};
 use std::env;
 use std::io::Read;
+use std::process::ExitCode;
 
 // The longest book that is served.
 const MOST_BYTES: usize = 16_384;
@@ -11,12 +13,13 @@ const MOST_BYTES: usize = 16_384;
 // One place for each member that a book can announce, so that too many members are told of as such.
 const PLACES: usize = 255;
 
-fn main(rt: HostRuntime) -> anyhow::Result<()> {
-    let result = run(&rt);
-    if let Err(e) = &result {
-        let _ = eprintln!(rt; "tontine: {e}");
-    }
-    result
+// An error is told in the program's own name. One that is returned would be printed a second time.
+fn main(rt: HostRuntime) -> ExitCode {
+    let Err(e) = run(&rt) else {
+        return ExitCode::SUCCESS;
+    };
+    let _ = eprintln!(rt; "tontine: {e}");
+    ExitCode::FAILURE
 }
 
 fn run(rt: &HostRuntime) -> anyhow::Result<()> {
@@ -41,8 +44,7 @@ fn check_arguments(rt: &HostRuntime) -> anyhow::Result<()> {
     let Some(unknown) = arguments.next() else {
         return Ok(());
     };
-    let usage = format!(in rt.alloc(); "usage: tontine < BOOK (unknown argument: {unknown})")?;
-    Err(usage.into())
+    bail!("usage: tontine < BOOK (unknown argument: {unknown})");
 }
 
 // The whole of standard input, unless it is longer than a book may be.
@@ -51,10 +53,10 @@ fn read_book(rt: &HostRuntime) -> anyhow::Result<Vec<u8>> {
     rt.stdin()
         .take(MOST_BYTES as u64 + 1)
         .read_to_end(&mut book)?;
-    if book.len() > MOST_BYTES {
-        let long = format!(in rt.alloc(); "the book is longer than {MOST_BYTES} bytes")?;
-        return Err(long.into());
-    }
+    ensure!(
+        book.len() <= MOST_BYTES,
+        "the book is longer than {MOST_BYTES} bytes"
+    );
     Ok(book)
 }
 

@@ -32,7 +32,7 @@ loop-member-preserved c =
     (omega (arith, whole_next further), omega (arith, most_next further), omega arith)
 
 pub invariant_of-result : goal.invariant_of-result
-invariant_of-result c = (omega (arith, size_is c, largest_is c, most_whole c.args.members.now), (omega arith, tt))
+invariant_of-result c = record { within = omega (arith, size_is c, largest_is c, most_whole c.args.members.now); bounded = omega arith }
 
 pub returns : goal.returns
 returns c =
