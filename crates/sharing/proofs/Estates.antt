@@ -1,13 +1,13 @@
 -- What the checks before a stake is shared out tell. Assumes nothing.
-use Rattle.std.proofs.Common.{◌≡◌, ℕ, ◌+◌, ◌*◌, ◌<◌, ◌≤◌, true, false, cond, ltb, List, length, Some, None, sym, refl, ap, ◌∙◌, ⊎_elim, arith}
+use Rattle.std.proofs.Common.{◌≡◌, ℕ, ◌+◌, ◌*◌, ◌<◌, ◌≤◌, true, cond, List, length, Some, None, ap, ⊎_elim, arith}
 use Rattle.std.proofs.lemmas.Nat.{mul-add-lt}
 use Rattle.std.proofs.lemmas.List.{get_or_past}
-use Rattle.std.proofs.lemmas.Bool.{cases_lt, cases_Bool, both_ways}
+use Rattle.std.proofs.lemmas.Bool.{cases_lt, both_ways}
 use Rattle.std.proofs.lemmas.Bool.Decides.{nat_tests}
 use Rattle.members.specs.Members.{nobody}
 use Rattle.members.specs.declared.member.Member.{Member}
 use Rattle.circle.specs.Answers.{circle_answer, start_answer}
-use Rattle.circle.specs.Circle.{unit_limit, at_risk, units, whole, most, start, member_of}
+use Rattle.circle.specs.Circle.{unit_limit, whole, most, start, member_of}
 use Rattle.circle.proofs.Bounds.{units_living}
 use Rattle.circle.proofs.Owners.{block_in}
 

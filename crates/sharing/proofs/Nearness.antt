@@ -1,11 +1,10 @@
 -- The units of one member that fall to another are one run, and so what it gets is nearly the same for every word. Assumes nothing.
-use Rattle.std.proofs.Common.{◌≡◌, ℕ, zero, suc, ◌+◌, ◌-◌, ◌*◌, ◌<◌, ◌≤◌, true, false, eqb, ◌⊎◌, List, [], ◌∷◌, length, sym, refl, ap, ◌∙◌, inl, inr, ⊎_elim, arith}
+use Rattle.std.proofs.Common.{◌≡◌, ℕ, zero, suc, ◌+◌, ◌-◌, ◌*◌, ◌<◌, ◌≤◌, eqb, ◌⊎◌, List, [], ◌∷◌, refl, ap, ◌∙◌, inl, inr, ⊎_elim, arith}
 use Rattle.std.proofs.lemmas.Nat.{mul-le}
 use Rattle.std.proofs.lemmas.Bool.{eq-eqb, ne_eqb, cases_lt, cases_eq}
 use Rattle.members.specs.declared.member.Member.{Member}
 use Rattle.circle.specs.Circle.{at_risk, units, whole, most, start, turned, member_of, Holds}
-use Rattle.circle.specs.Sums.{span, bit}
-use Rattle.circle.proofs.Owners.{units_nobody, block_in, most_whole}
+use Rattle.circle.proofs.Owners.{units_nobody, block_in}
 use Rattle.circle.proofs.Turns.{turned_straight, turned_wrapped}
 use Rattle.sharing.specs.Fair.{Near, ExactPart}
 use Rattle.sharing.specs.Sharing.{falls_to, stands_for, gets, Balanced, units_to}

@@ -1,11 +1,11 @@
 -- What is left in the memory for cents. Assumes nothing.
-use Rattle.std.proofs.Common.{◌≡◌, ℕ, zero, suc, ◌+◌, ◌*◌, ◌<◌, ◌≤◌, true, eqb, List, ◌++◌, map, length, get_or, take, drop, Ok, Err, sum, sym, refl, ap, ◌∙◌, ap₂, add-one, arith}
+use Rattle.std.proofs.Common.{◌≡◌, ℕ, zero, suc, ◌+◌, ◌*◌, ◌<◌, true, eqb, List, ◌++◌, map, length, get_or, Ok, sum, sym, refl, ap, ◌∙◌, ap₂, add-one, arith}
 use Rattle.std.specs.List.{range_with_len}
 use Rattle.std.proofs.lemmas.List.FromFn.{length-map-range_with_len, get_or-map-range_with_len, sum_by-map-range_with_len_more}
 use Rattle.std.proofs.lemmas.List.{take_at, get_or_append_left}
 use Rattle.std.proofs.lemmas.Bool.Decides.{nat_tests}
 use Rattle.members.specs.declared.member.Member.{Member}
-use Rattle.circle.specs.Circle.{at_risk, whole, most, start, owner, turned, member_of}
+use Rattle.circle.specs.Circle.{start, owner, turned, member_of}
 use Rattle.circle.specs.Sums.{span, bit}
 use Rattle.circle.proofs.Bounds.{at_risk_living, units_dead}
 use Rattle.circle.proofs.Sums.{span_ext}

@@ -1,6 +1,6 @@
-use Rattle.std.proofs.Common.{◌≡◌, ◌+◌, ◌<◌, eqb, length, get_or, replicate, sym, refl, ap, ◌∙◌, subst, arith}
+use Rattle.std.proofs.Common.{◌≡◌, eqb, length, get_or, replicate, sym, refl, ap, ◌∙◌, subst, arith}
 use Rattle.std.proofs.lemmas.List.FromFn.{fill_by_all}
-use Rattle.circle.specs.Circle.{whole, owner}
+use Rattle.circle.specs.Circle.{owner}
 use Rattle.circle.proofs.Turns.{turned_below}
 use Rattle.circle.proofs.Walks.{Next, whole_next, owner_next, owner_further, whole_done}
 use Rattle.sharing.specs.Answers.{dealt_to, dealt}

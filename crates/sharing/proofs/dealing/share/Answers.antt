@@ -1,9 +1,8 @@
-use Rattle.std.proofs.Common.{◌≡◌, ◌-◌, ◌++◌, length, drop, sym, refl, ap, ◌∙◌, subst, ap₂, arith, rules}
+use Rattle.std.proofs.Common.{◌≡◌, ◌-◌, ◌++◌, length, drop, sym, ◌∙◌, subst, ap₂, arith, rules}
 use borrow.Rule.Slice.PartMut.{post_of}
 use Rattle.std.proofs.lemmas.Slice.{overwrites}
 use Rattle.std.proofs.lemmas.Bool.Decides.{nat_tests}
 use Rattle.sharing.specs.Answers.{ToOthers}
-use Rattle.sharing.specs.Sharing.{given}
 use Rattle.sharing.proofs.Shares.{dealt_given, to_others, one_death}
 use Rattle.sharing.proofs.dealing.share.Goals as goal
 

@@ -1,4 +1,4 @@
-use Rattle.std.proofs.Common.{◌≡◌, ◌*◌, sym, ap, ◌∙◌, arith}
+use Rattle.std.proofs.Common.{◌*◌, sym, ap, ◌∙◌, arith}
 use Rattle.std.proofs.lemmas.Bool.Decides.{nat_tests}
 use Rattle.circle.proofs.Bounds.{at_risk_living}
 use Rattle.sharing.proofs.Estates.{living_in, found, start_lost, all_found, cent_within}
@@ -15,7 +15,7 @@ returns-in_default-start c =
 pub invariant_of-result : goal.invariant_of-result
 invariant_of-result c =
     let f = all_found c.args.members.now c.args.dead _ _ _ _ c.in-Some.ensures c.in-Some-start.ensures.value c.in-Some-of.ensures.value in
-    (λ n h. omega (arith, cent_within c.args.members.now c.args.dead c.args.word n f.alive (omega arith) (omega arith), ap (λ w. n * w) (c.from-weight.ensures ∙ f.weight)), tt)
+    record { within = λ n h. omega (arith, cent_within c.args.members.now c.args.dead c.args.word n f.alive (omega arith) (omega arith), ap (λ w. n * w) (c.from-weight.ensures ∙ f.weight)) }
 
 pub returns : goal.returns
 returns c =
