@@ -1,6 +1,6 @@
 -- Reading lines is the inverse of writing them. Assumes nothing.
 use Rattle.std.proofs.Common.{◌≡◌, ℕ, zero, suc, ◌<◌, ◌≤◌, List, [], ◌∷◌, ◌++◌, length, get_or, drop, Some, None, Option, sym, refl, ap, ◌∙◌, subst, arith}
-use Rattle.std.specs.List.{AllByRecursion as All}
+use Rattle.std.specs.List.{AllByRecursion}
 use Rattle.std.proofs.ByRecursion.{All-drop}
 use Rattle.std.proofs.lemmas.List.{append_assoc}
 use Rattle.members.specs.Bytes.{Bytes, number_in, number_bytes}
@@ -49,7 +49,7 @@ lines_at n less bs h p None e =
     let t = text_none bs e in
     record {
       split = sym (ap (λ t. lines_bytes t.lines ++ t.left) t);
-      sized = subst (λ t. All Sized t.lines) (sym t) tt;
+      sized = subst (λ t. AllByRecursion Sized t.lines) (sym t) tt;
       stuck = ap (λ t. line_at t.left) t ∙ e;
     }
 lines_at n less bs h p (Some x) e =
@@ -58,7 +58,7 @@ lines_at n less bs h p (Some x) e =
     let first = line_is_its_bytes bs x p e in
     record {
       split = first.0 ∙ ap (λ l. line_bytes x.0 ++ l) rest.split ∙ sym (append_assoc (line_bytes x.0) (lines_bytes (text_of x.1).lines) (text_of x.1).left) ∙ sym (ap (λ t. lines_bytes t.lines ++ t.left) t);
-      sized = subst (λ t. All Sized t.lines) (sym t) (first.1, rest.sized);
+      sized = subst (λ t. AllByRecursion Sized t.lines) (sym t) (first.1, rest.sized);
       stuck = ap (λ t. line_at t.left) t ∙ rest.stuck;
     }
 

@@ -1,11 +1,11 @@
 -- Numbers in a book, and the weights of a table. Assumes nothing.
 use Rattle.std.specs.Prelude.{ℕ, ◌+◌, ◌-◌, ◌*◌, ◌/◌, ◌%◌, ◌<◌, List, [], ◌∷◌, slice_index, slice_index_or}
-use Rattle.std.specs.List.{AllByRecursion as All}
+use Rattle.std.specs.List.{AllByRecursion}
 use Rattle.members.specs.Limits.{first_age}
 
 -- each of these numbers is a byte
 abbrev pub Bytes : List ℕ → Type 0
-Bytes bs = All (λ b. b < 256) bs
+Bytes bs = AllByRecursion (λ b. b < 256) bs
 
 -- the number that the first four bytes write, the low one first; a byte that is not there counts as 0
 abbrev pub number_in : List ℕ → ℕ
