@@ -1,17 +1,28 @@
 // The book of a tontine: reads a book from standard input and prints what it comes to.
 #![tactic(auto)]
 
-use anyhow::{bail, ensure};
 use members::{Member, Refusal, Room, read_head};
-use std::env;
 use std::io::Read;
 use std::process::ExitCode;
+use std::{env, io};
+use thiserror::Error;
 
 // The longest book that is served.
 const MOST_BYTES: usize = 16_384;
 
 // One place for each member that a book can announce, so that too many members are told of as such.
 const PLACES: usize = 255;
+
+// Why the program ends without having told of the book.
+#[derive(Debug, Drop, Error)]
+enum Failure {
+    #[error("usage: tontine < BOOK (unknown argument: {0})")]
+    UnknownArgument(String),
+    #[error("the book is longer than {most} bytes", most = MOST_BYTES)]
+    BookTooLong,
+    #[error(transparent)]
+    System(#[from] io::Error),
+}
 
 // An error is told in the program's own name. One that is returned would be printed a second time.
 fn main(rt: HostRuntime) -> ExitCode {
@@ -22,7 +33,7 @@ fn main(rt: HostRuntime) -> ExitCode {
     ExitCode::FAILURE
 }
 
-fn run(rt: &HostRuntime) -> anyhow::Result<()> {
+fn run(rt: &HostRuntime) -> Result<(), Failure> {
     check_arguments(rt)?;
     let book = read_book(rt)?;
     let mut members = [Member::nobody(); PLACES];
@@ -37,30 +48,29 @@ fn run(rt: &HostRuntime) -> anyhow::Result<()> {
     }
 }
 
-fn check_arguments(rt: &HostRuntime) -> anyhow::Result<()> {
+fn check_arguments(rt: &HostRuntime) -> Result<(), Failure> {
     let mut arguments = env::args(rt)?;
     // the first is the program's own name
     let _ = arguments.next();
     let Some(unknown) = arguments.next() else {
         return Ok(());
     };
-    bail!("usage: tontine < BOOK (unknown argument: {unknown})");
+    Err(Failure::UnknownArgument(unknown))
 }
 
 // The whole of standard input, unless it is longer than a book may be.
-fn read_book(rt: &HostRuntime) -> anyhow::Result<Vec<u8>> {
+fn read_book(rt: &HostRuntime) -> Result<Vec<u8>, Failure> {
     let mut book = Vec::new(rt.alloc());
     rt.stdin()
         .take(MOST_BYTES as u64 + 1)
         .read_to_end(&mut book)?;
-    ensure!(
-        book.len() <= MOST_BYTES,
-        "the book is longer than {MOST_BYTES} bytes"
-    );
+    if book.len() > MOST_BYTES {
+        return Err(Failure::BookTooLong);
+    }
     Ok(book)
 }
 
-fn print_members(rt: &HostRuntime, members: &[Member], count: usize) -> anyhow::Result<()> {
+fn print_members(rt: &HostRuntime, members: &[Member], count: usize) -> Result<(), Failure> {
     for member in members.iter().take(count) {
         let number = member.number;
         let paid = member.paid;
@@ -69,7 +79,7 @@ fn print_members(rt: &HostRuntime, members: &[Member], count: usize) -> anyhow::
     Ok(())
 }
 
-fn print_refusal(rt: &HostRuntime, refusal: Refusal) -> anyhow::Result<()> {
+fn print_refusal(rt: &HostRuntime, refusal: Refusal) -> Result<(), Failure> {
     let number = refusal.number();
     let place = refusal.place();
     println!(rt; "refused {number} at {place}")?;
