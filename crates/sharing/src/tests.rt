@@ -1,5 +1,4 @@
-// Small societies as they were worked out by hand, every refusal, and all deaths and words of many small societies against a plain
-// reading of the rules, run.
+// Small societies as they were worked out by hand, run.
 use crate::dealing::*;
 use crate::unshared::*;
 use members::Member;

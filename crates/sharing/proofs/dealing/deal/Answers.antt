@@ -18,7 +18,7 @@ cents-init c = counted_none (dealt_to c.args.members.now c.args.estate.now) _ _ 
 pub loop-place-init : goal.loop-place-init
 loop-place-init c =
     let e = c.args.estate.now in
-    let below = turned_below e.circle.size e.circle.largest _ e.circle.within (e.within c.cents.cent c.cents-test.true) in
+    let below = turned_below e.circle.size e.circle.largest _ e.circle.within (e.within c.cents.cent (omega arith)) in
     (refl, omega (arith, below), omega (arith, ap (owner c.args.members.now) c.landing-left.ensures))
 
 pub overflow_add-cents : goal.overflow_add-cents
