@@ -1,5 +1,6 @@
-use Rattle.std.proofs.Common.{◌*◌, sym, ap, ◌∙◌, arith}
+use Rattle.std.proofs.Common.{◌*◌, ◌≤◌, sym, ap, ◌∙◌, arith}
 use Rattle.std.proofs.lemmas.Bool.Decides.{nat_tests}
+use Rattle.circle.specs.Circle.{whole, most}
 use Rattle.circle.proofs.Bounds.{at_risk_living}
 use Rattle.sharing.proofs.Estates.{living_in, found, start_lost, all_found, cent_within}
 use Rattle.sharing.proofs.estate.Estate.of.Goals as goal
@@ -20,4 +21,6 @@ invariant_of-result c =
 pub returns : goal.returns
 returns c =
     let f = all_found c.args.members.now c.args.dead _ _ _ _ c.in-Some.ensures c.in-Some-start.ensures.value c.in-Some-of.ensures.value in
+    -- said by itself, so that code which shares above the half is refused here
+    let half : 2 * most c.args.members.now ≤ whole c.args.members.now = omega (arith, f.all, f.most) in
     record { value = grind (arith, nat_tests); left = record { size = f.all; largest = f.most; first = omega arith; step = omega arith; cents = f.stake ∙ sym (at_risk_living _ f.alive) } }
