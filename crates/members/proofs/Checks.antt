@@ -1,70 +1,59 @@
--- A loop that checks one number after the other and stops at the first that fails. Assumes nothing.
-use Rattle.std.proofs.Common.{◌≡◌, ℕ, zero, suc, ◌+◌, ◌<◌, ◌≤◌, Bool, true, false, cond, List, [], ◌∷◌, length, get_or, drop, Some, None, Ok, Err, sym, refl, ap, ◌∙◌, arith}
-use Rattle.std.specs.List.{range_with_len, prefix_len}
+-- A check of numbers that stops at the first that fails. Assumes nothing.
+use Rattle.std.proofs.Common.{◌≡◌, ℕ, ◌<◌, ◌≤◌, Bool, true, false, cond, ltb, get_or, Some, None, Ok, Err, Result, OnOk, IfErr, MatchResult, sym, refl, ap, ◌∙◌, arith}
+use Rattle.std.specs.List.{range_with_len}
 use Rattle.std.proofs.lemmas.List.FromFn.{length-range_with_len, get_or-range_with_len}
-use Rattle.std.proofs.lemmas.List.Sums.{prefix_len-drop_yes, prefix_len-drop_no, prefix_len-drop_all}
-use Rattle.std.proofs.lemmas.Bool.{cond_below, cond_above, cases_Bool}
+use Rattle.std.proofs.lemmas.List.Sums.{prefix_len-le-length, prefix_len_is, prefix_len_passes}
+use Rattle.std.proofs.lemmas.Bool.{ltb-false, cond_below, cond_above}
+use Rattle.members.specs.Checks.{Tells, AllGood, FirstBad}
 use Rattle.members.specs.Heads.{first_bad, checked}
 use Rattle.members.specs.declared.refusal.Refusal.{Refusal}
-
--- the numbers below i have passed
-pub record Passed (good : ℕ → Bool) (n i : ℕ) : Type 0 where
-  pub is : i + prefix_len good (drop i (range_with_len 0 n)) ≡ first_bad good n
 
 module _ (good : ℕ → Bool) (n : ℕ) where
   at : (i : ℕ) → i < n → get_or (range_with_len 0 n) i 0 ≡ i
   at i h = get_or-range_with_len 0 n i 0 h ∙ omega arith
 
-  inside : (i : ℕ) → i < n → i < length (range_with_len 0 n)
-  inside i h = omega (arith, length-range_with_len 0 n)
-
-  pub passed_none : Passed good n 0
+  -- the first number that fails is the one before which none does, or n where none does at all
+  pub first_is : (i : ℕ) → i ≤ n → ((k : ℕ) → k < i → good k ≡ true) → (i < n → good i ≡ false) → first_bad good n ≡ i
   unfolding first_bad
-  passed_none = record { is = omega arith }
+  first_is i h before bad =
+      let long = length-range_with_len 0 n in
+      prefix_len_is good (range_with_len 0 n) i 0 (omega (arith, long)) (λ k l. ap good (at k (omega arith)) ∙ before k l) (λ l. ap good (at i (omega (arith, long))) ∙ bad (omega (arith, long)))
 
-  pub passed_more : (i : ℕ) → i < n → good i ≡ true → Passed good n i → Passed good n (i + 1)
-  passed_more i h g p = record { is = omega (arith, p.is, prefix_len-drop_yes good (range_with_len 0 n) i 0 (inside i h) (ap good (at i h) ∙ g)) }
+  pub none_fails : ((i : ℕ) → i < n → good i ≡ true) → first_bad good n ≡ n
+  none_fails each = first_is n (omega arith) each (λ l. absurd (omega arith))
 
-  pub failed : (i : ℕ) → i < n → good i ≡ false → Passed good n i → first_bad good n ≡ i
-  failed i h g p = omega (arith, p.is, prefix_len-drop_no good (range_with_len 0 n) i 0 (inside i h) (ap good (at i h) ∙ g))
+  -- where none fails each passes
+  pub passes : first_bad good n ≡ n → (i : ℕ) → i < n → good i ≡ true
+  unfolding first_bad
+  passes e i h = ap good (sym (at i h)) ∙ prefix_len_passes good (range_with_len 0 n) i 0 (omega (arith, e))
 
-  pub at_failed : {A : Type 0} (why : ℕ → Refusal) (x : A) (i : ℕ) → i < n → good i ≡ false → Passed good n i → Err (why i) ≡ checked (first_bad good n) n why x
-  at_failed why x i h g p = let e = failed i h g p in rw e (cond_below i n (Err (why i)) (Ok x) h)
-
-  pub passed_all : (i : ℕ) → n ≤ i → Passed good n i → first_bad good n ≡ i
-  passed_all i h p = omega (arith, p.is, prefix_len-drop_all good (range_with_len 0 n) i (omega (arith, length-range_with_len 0 n)))
-
-  pub at_end : {A : Type 0} (why : ℕ → Refusal) (x y : A) (i : ℕ) → n ≤ i → x ≡ y → Passed good n i → Ok x ≡ checked (first_bad good n) n why y
-  at_end why x y i h s p = let e = passed_all i h p in rw (e, s) (cond_above i n (Err (why i)) (Ok y) (Ok y) h refl)
-
--- a front that is as long as the list has all of it
-lead_first : (good : ℕ → Bool) (x : ℕ) (xs : List ℕ) → prefix_len good (x ∷ xs) ≡ suc (length xs) → (good x ≡ true) × (prefix_len good xs ≡ length xs)
-lead_first good x xs e = grind (arith, cases_Bool (good x))
-
-all_lead : (good : ℕ → Bool) (xs : List ℕ) → prefix_len good xs ≡ length xs → (i : ℕ) → i < length xs → good (get_or xs i 0) ≡ true
-all_lead good [] e i h = absurd (omega arith)
-all_lead good (x ∷ xs) e zero h = (lead_first good x xs e).0
-all_lead good (x ∷ xs) e (suc i) h = all_lead good xs (lead_first good x xs e).1 i (omega arith)
-
--- where none of the numbers below n fails, each passes
-pub passes : (good : ℕ → Bool) (n : ℕ) → first_bad good n ≡ n → (i : ℕ) → i < n → good i ≡ true
-unfolding first_bad
-passes good n e i h = ap good (sym (at good n i h)) ∙ all_lead good (range_with_len 0 n) (e ∙ sym (length-range_with_len 0 n)) i (inside good n i h)
+  -- so it is where the first that fails is not below n
+  pub none_bad : ltb (first_bad good n) n ≡ false → first_bad good n ≡ n
+  unfolding first_bad
+  none_bad h = omega (arith, ltb-false _ n h, prefix_len-le-length good (range_with_len 0 n), length-range_with_len 0 n)
 
 -- a check that hands on its value or nothing
 pub handed_on : (b : Bool) (x y : ℕ) → Some y ≡ cond b (Some x) None → (b ≡ true) × (y ≡ x)
 handed_on true x y e = (refl, cc)
 handed_on false x y e = let z : ◌≡◌ {A = ℕ} 0 1 = cc in absurd (omega arith)
 
-pub held_back : (b : Bool) (x : ℕ) → None ≡ cond b (Some x) None → b ≡ false
-held_back true x e = let z : ◌≡◌ {A = ℕ} 0 1 = cc in absurd (omega arith)
-held_back false x e = refl
+-- what the check tells, as the definitions say it, where f computes the numbers that are given
+module _ (gives : ℕ → ℕ → Type 0) (good : ℕ → Bool) (f : ℕ → ℕ) (n : ℕ) (computes : (i m : ℕ) → i < n → gives i m → m ≡ f i) where
+  said : (i : ℕ) (b : Bool) → i < n → Tells gives good i b → good (f i) ≡ b
+  said i b h (m, given, says) = ap good (sym (computes i m h given)) ∙ says
 
-lead_all : (good : ℕ → Bool) (xs : List ℕ) → ((i : ℕ) → i < length xs → good (get_or xs i 0) ≡ true) → prefix_len good xs ≡ length xs
-lead_all good [] each = refl
-lead_all good (x ∷ xs) each = let rest = lead_all good xs (λ i h. each (suc i) (omega arith)) in rw (each 0 (omega arith)) (omega arith)
+  pub told : (why : ℕ → Refusal) (r : Result (Unit {0}) ℕ) (s : Result (Unit {0}) Refusal) → OnOk r (AllGood gives good n) → IfErr r (FirstBad gives good n) → MatchResult r (λ x. s ≡ Ok tt) (λ i. s ≡ Err (why i)) → s ≡ checked (first_bad (λ i. good (f i)) n) n why tt
+  told why (Ok x) s all bad is = is ∙ (let e = none_fails (λ i. good (f i)) n (λ i h. said i true h (all i h)) in rw e (cond_above n n (Err (why n)) (Ok tt) (Ok tt) (omega arith) refl))
+  told why (Err i) s all bad is =
+      is
+      ∙ (let e = first_is (λ i. good (f i)) n i (omega (arith, bad.inside)) (λ k h. said k true (omega (arith, bad.inside)) (bad.before k h)) (λ h. said i false bad.inside bad.bad) in
+      rw e (cond_below i n (Err (why i)) (Ok tt) bad.inside))
 
--- and the other way round
-pub none_fails : (good : ℕ → Bool) (n : ℕ) → ((i : ℕ) → i < n → good i ≡ true) → first_bad good n ≡ n
-unfolding first_bad
-none_fails good n each = lead_all good (range_with_len 0 n) (λ i h. ap good (at good n i (omega (arith, length-range_with_len 0 n))) ∙ each i (omega (arith, length-range_with_len 0 n))) ∙ length-range_with_len 0 n
+-- a check that was passed
+pub past : {A E : Type 0} (b : Bool) (e : E) (r : Result A E) (x : A) → cond b (Err e) r ≡ Ok x → (b ≡ false) × (r ≡ Ok x)
+past true e r x h = let z : ◌≡◌ {A = ℕ} 0 1 = cc in absurd (omega arith)
+past false e r x h = (refl, h)
+
+-- no number fails where no refusal was answered
+pub none_refused : (good : ℕ → Bool) (n : ℕ) (why : ℕ → Refusal) → ◌≡◌ {A = Result (Unit {0}) Refusal} (Ok tt) (checked (first_bad good n) n why tt) → first_bad good n ≡ n
+none_refused good n why e = none_bad good n (past _ _ _ tt (sym e)).0

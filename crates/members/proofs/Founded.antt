@@ -2,7 +2,7 @@
 use Rattle.std.proofs.Common.{◌≡◌, ℕ, ◌+◌, ◌-◌, ◌*◌, ◌<◌, ◌≤◌, List, [], ◌∷◌, ◌++◌, length, get_or, drop, Ok, sym, refl, ap, ◌∙◌, subst, arith, get_or-drop}
 use Rattle.std.specs.List.{flat_map}
 use Rattle.std.proofs.lemmas.List.FromFn.{fill_by_all, length-map-range_with_len, get_or-map-range_with_len}
-use Rattle.std.proofs.ByRecursion.{All-drop}
+use Rattle.std.proofs.lemmas.List.Elements.{All-drop}
 use Rattle.std.proofs.lemmas.List.{append_assoc, length-append, drop-drop, drop_all, length-drop}
 use Rattle.members.specs.Bytes.{Bytes, number_in, number_bytes, weight_for}
 use Rattle.members.specs.Heads.{announced, head_length, after_head, weight_at, age_at, stake_at, weights_of, table_of, member_at, members_of, bad_weight, bad_age, bad_stake, head_of}

@@ -1,11 +1,10 @@
 -- What is known of a head that was accepted. Assumes nothing.
-use Rattle.std.proofs.Common.{◌≡◌, ℕ, ◌<◌, ◌≤◌, Bool, true, false, cond, ltb, List, ◌++◌, map, length, drop, Some, None, Ok, Err, Option, Result, sym, refl, ap, ◌∙◌, arith}
+use Rattle.std.proofs.Common.{◌≡◌, ℕ, ◌≤◌, Bool, true, false, cond, List, ◌++◌, map, length, drop, Some, None, Ok, Option, Result, sym, refl, ap, ◌∙◌, arith}
 use Rattle.std.specs.List.{range_with_len}
-use Rattle.std.proofs.lemmas.List.FromFn.{length-range_with_len}
-use Rattle.std.proofs.lemmas.List.Sums.{prefix_len-le-length}
 use Rattle.std.proofs.lemmas.Bool.{ltb-false, le-ltb, not-false, not_from_true, cond-false}
 use Rattle.members.specs.Limits.{most_members, ages, good_count}
-use Rattle.members.specs.Heads.{announced, head_length, after_head, table_of, first_bad, bad_weight, bad_age, bad_stake, Known, head_of, lacking, unless_lacking, answer, seated, member_at, members_of}
+use Rattle.members.specs.Heads.{announced, head_length, after_head, table_of, bad_weight, bad_age, bad_stake, entries_of, head_of, lacking, unless_lacking, answer, seated, member_at, members_of}
+use Rattle.members.specs.Founding.{room_for}
 use Rattle.members.specs.Lines.{line_count}
 use Rattle.members.specs.declared.head.Head.{Head}
 use Rattle.members.specs.declared.head.Room.{Room}
@@ -13,19 +12,10 @@ use Rattle.members.specs.declared.member.Member.{Member}
 use Rattle.members.specs.declared.refusal.Memory.{Memory}
 use Rattle.members.specs.declared.refusal.Refusal.{Refusal}
 use Rattle.members.proofs.Bounds.{good_within}
-use Rattle.members.proofs.Checks.{passes}
-
--- a check that was passed
-past : {A E : Type 0} (b : Bool) (e : E) (r : Result A E) (x : A) → cond b (Err e) r ≡ Ok x → (b ≡ false) × (r ≡ Ok x)
-past true e r x h = let z : ◌≡◌ {A = ℕ} 0 1 = cc in absurd (omega arith)
-past false e r x h = (refl, h)
+use Rattle.members.proofs.Checks.{past, none_bad}
 
 ok_same : {A E : Type 0} (x y : A) → ◌≡◌ {A = Result A E} (Ok y) (Ok x) → y ≡ x
 ok_same x y e = cc
-
-none_bad : (good : ℕ → Bool) (n : ℕ) → ltb (first_bad good n) n ≡ false → first_bad good n ≡ n
-unfolding first_bad
-none_bad good n h = omega (arith, ltb-false _ n h, prefix_len-le-length good (range_with_len 0 n), length-range_with_len 0 n)
 
 pub record Accepted (bs : List ℕ) (h : Head) : Type 0 where
   pub is : h ≡ record { count = announced bs; table = table_of bs }
@@ -56,30 +46,23 @@ accepted bs h e =
     }
 
 -- and the other way round
+pub entries_pass : (bs : List ℕ) (n : ℕ) → bad_weight bs ≡ ages → bad_age bs n ≡ n → bad_stake bs n ≡ n → entries_of bs n ≡ Ok (record { count = n; table = table_of bs })
+entries_pass bs n weights aged staked =
+    cond-false _ _ _ (le-ltb (bad_weight bs) ages (omega arith)) ∙ cond-false _ _ _ (le-ltb (bad_age bs n) n (omega arith)) ∙ cond-false _ _ _ (le-ltb (bad_stake bs n) n (omega arith))
+
 pub accepts : (bs : List ℕ) → good_count (announced bs) ≡ true → head_length (announced bs) ≤ length bs → bad_weight bs ≡ ages → bad_age bs (announced bs) ≡ announced bs → bad_stake bs (announced bs) ≡ announced bs → head_of bs ≡ Ok (record { count = announced bs; table = table_of bs })
 accepts bs counted long weights aged staked =
-    cond-false _ _ _ (not_from_true _ counted)
-    ∙ cond-false _ _ _ (le-ltb (length bs) (head_length (announced bs)) long)
-    ∙ cond-false _ _ _ (le-ltb (bad_weight bs) ages (omega arith))
-    ∙ cond-false _ _ _ (le-ltb (bad_age bs (announced bs)) (announced bs) (omega arith))
-    ∙ cond-false _ _ _ (le-ltb (bad_stake bs (announced bs)) (announced bs) (omega arith))
-
--- so its members can be seated
-pub known : (bs : List ℕ) (h : Head) → Accepted bs h → (i : ℕ) → i < h.count → Known bs h.table i
-known bs h a i l =
-    let count = ap (λ x. x.count) a.is in
-    record {
-      few = omega (arith, a.few);
-      long = omega (arith, a.long);
-      table = ap (λ x. x.table) a.is;
-      aged = passes _ _ a.aged i (omega arith);
-      staked = passes _ _ a.staked i (omega arith);
-    }
+    cond-false _ _ _ (not_from_true _ counted) ∙ cond-false _ _ _ (le-ltb (length bs) (head_length (announced bs)) long) ∙ entries_pass bs (announced bs) weights aged staked
 
 -- a memory that is long enough
 enough : {A : Type 0} (b : Bool) (x : A) (r : Option A) → cond b (Some x) r ≡ None → (b ≡ false) × (r ≡ None)
 enough true x r h = let z : ◌≡◌ {A = ℕ} 0 1 = cc in absurd (omega arith)
 enough false x r h = (refl, h)
+
+-- where the memory was found to be enough, none is too short
+pub none_lacking : (o : Option Memory) → Ok tt ≡ room_for o → o ≡ None
+none_lacking None e = refl
+none_lacking (Some m) e = let z : ◌≡◌ {A = ℕ} 0 1 = cc in absurd (omega arith)
 
 module _ (places : ℕ) (room : Room) (bs : List ℕ) (full : lacking places room bs ≡ None) where
   pub roomy : announced bs ≤ places

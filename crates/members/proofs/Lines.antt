@@ -1,16 +1,11 @@
 -- Lines read from bytes: one at a time, and how many there are. Assumes nothing.
-use Rattle.std.proofs.Common.{◌≡◌, ℕ, zero, suc, ◌+◌, ◌-◌, ◌<◌, ◌≤◌, List, [], ◌∷◌, length, get_or, take, drop, Some, None, Option, sym, refl, ap, ◌∙◌, subst, ⊎_elim, arith, length-drop}
-use Rattle.std.proofs.lemmas.List.{take_rest}
+use Rattle.std.proofs.Common.{◌≡◌, ℕ, zero, suc, ◌+◌, ◌<◌, ◌≤◌, List, [], ◌∷◌, length, get_or, drop, Some, None, Option, sym, refl, ap, ◌∙◌, subst, ⊎_elim, arith, length-drop}
 use Rattle.std.proofs.lemmas.Bool.{cases_eq, cases_lt}
 use Rattle.std.proofs.lemmas.Bool.Decides.{nat_tests}
 use Rattle.members.specs.Bytes.{number_in}
 use Rattle.members.specs.Lines.{line_at, death_at, before, lines_in, text_of, unreadable, line_count}
 use Rattle.members.specs.declared.line.Line.{Line}
 use Rattle.members.specs.declared.line.Line.TheVariants.{Death, NewYear, WoundUp}
-
-pub death_whole : (bs : List ℕ) (w : ℕ) → 5 ≤ length bs → w ≡ number_in (drop 1 bs) → Some (Death (get_or bs 0 0) w, take (length bs - 5) (drop 5 bs)) ≡ death_at bs
-unfolding death_at
-death_whole bs w n e = rw (take_rest, e) (grind (arith, nat_tests))
 
 pub death_cut : (bs : List ℕ) → length bs < 5 → None ≡ death_at bs
 unfolding death_at

@@ -1,33 +1,28 @@
--- The table, read and checked weight by weight. Assumes nothing.
-use Rattle.std.proofs.Common.{◌≡◌, ℕ, ◌+◌, ◌<◌, ◌≤◌, true, List, length, get_or, set, ◌∙◌, arith, length-set}
+-- The table, made weight by weight. Assumes nothing.
+use Rattle.std.proofs.Common.{◌≡◌, ℕ, zero, suc, ◌+◌, ◌<◌, ◌≤◌, List, get_or, sym, ap, ◌∙◌, subst, ⊎_elim, arith}
+use Rattle.std.specs.Fn.{Mut, Called}
+use Rattle.std.specs.Array.{IsFromFnResult, IsFromFnResultFrom}
 use Rattle.std.proofs.lemmas.List.FromFn.{fill_by_all}
-use Rattle.std.proofs.lemmas.List.Edits.{fill_by_more}
-use Rattle.members.specs.Limits.{Weight, ages, good_weight, most_weight, clamped}
-use Rattle.members.specs.Heads.{weight_at, weights_of, table_of}
-use Rattle.members.proofs.Checks.{Passed, passed_none, passed_more}
+use Rattle.std.proofs.lemmas.Bool.{cases_eq}
+use Rattle.members.specs.Heads.{weight_at, weights_of, bad_weight}
+use Rattle.members.specs.Limits.{ages, most_weight, clamped}
 use Rattle.members.proofs.Bounds.{good_same}
+use Rattle.members.proofs.Checks.{passes}
 
--- the weights below i stand in their places and are in bounds
-pub record Reading (bs ws : List ℕ) (i : ℕ) : Type 0 where
-  pub long : length ws ≡ ages
-  pub filled : (k : ℕ) → k < i → get_or ws k 1 ≡ clamped most_weight (weight_at bs k)
-  pub passed : Passed (λ k. good_weight (weight_at bs k)) ages i
+-- what an array holds that was made by a closure which computes f and changes nothing
+module _ {F : Type 0} (g : Mut F (ℕ × Unit {0}) ℕ) (c : F) (f : ℕ → ℕ) (ys : List ℕ) (d : ℕ) where
+  each_from : (m i n : ℕ) → i + n ≡ m → ((k x : ℕ) (q : F) → k < m → Called g c (k, tt) x q → (q ≡ c) × (x ≡ f k)) → IsFromFnResultFrom g c ys i n → (k : ℕ) → i ≤ k → k < m → get_or ys k d ≡ f k
+  each_from m i zero e computes made k from below = absurd (omega arith)
+  each_from m i (suc n) e computes (q, y, at, called, rest) k from below =
+      let one = computes i y q (omega arith) called in
+      ⊎_elim
+      (λ (s : i ≡ k). ap (λ j. get_or ys j d) (sym s) ∙ at.1 d ∙ one.1 ∙ ap f s)
+      (λ (o : i ≡ k → ⊥). each_from m (i + 1) n (omega arith) computes (subst (λ s. IsFromFnResultFrom g s ys (i + 1) n) one.0 rest) k (omega arith) below)
+      (cases_eq i k)
 
-module _ (bs : List ℕ) where
-  pub reading_none : (ws : List ℕ) → length ws ≡ ages → Reading bs ws 0
-  reading_none ws n = record { long = n; filled = λ k h. absurd (omega arith); passed = passed_none _ _ }
-
-  pub reading_more : (ws : List ℕ) (i w : ℕ) → i < ages → w ≡ weight_at bs i → good_weight (weight_at bs i) ≡ true → Reading bs ws i → Reading bs (set ws i w) (i + 1)
-  reading_more ws i w h e g r = record {
-    long = length-set ws i w ∙ r.long;
-    filled = rw (e, good_same most_weight (weight_at bs i) g) (fill_by_more (λ k. clamped most_weight (weight_at bs k)) ws i 1 (omega (arith, r.long)) r.filled);
-    passed = passed_more _ _ i h g r.passed;
-  }
-
-  module _ (ws : List ℕ) (i : ℕ) (end : ages ≤ i) (within : i ≤ ages) (r : Reading bs ws i) where
-    pub reading_all : ws ≡ weights_of bs
-    unfolding weights_of
-    reading_all = fill_by_all (λ k. clamped most_weight (weight_at bs k)) ws ages 1 r.long (λ k h. r.filled k (omega arith))
-
-    pub weighs : (k : ℕ) → Weight (get_or ws k 1)
-    weighs k = rw reading_all ((table_of bs).weighs k)
+-- the table's weights are made, where all are within the bounds
+pub weights_made : {F : Type 0} (g : Mut F (ℕ × Unit {0}) ℕ) (c : F) (bs ws : List ℕ) → bad_weight bs ≡ ages → ((k x : ℕ) (q : F) → k < ages → Called g c (k, tt) x q → (q ≡ c) × (x ≡ weight_at bs k)) → IsFromFnResult g c ws ages → ws ≡ weights_of bs
+unfolding weights_of
+weights_made g c bs ws sound computes made =
+    fill_by_all (λ i. clamped most_weight (weight_at bs i)) ws ages 1 made.long
+    (λ k h. each_from g c (weight_at bs) ws 1 ages 0 ages (omega arith) computes made.each k (omega arith) h ∙ good_same most_weight (weight_at bs k) (passes _ ages sound k h))

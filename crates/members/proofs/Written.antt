@@ -1,7 +1,7 @@
 -- Reading lines is the inverse of writing them. Assumes nothing.
 use Rattle.std.proofs.Common.{◌≡◌, ℕ, zero, suc, ◌<◌, ◌≤◌, List, [], ◌∷◌, ◌++◌, length, get_or, drop, Some, None, Option, sym, refl, ap, ◌∙◌, subst, arith}
-use Rattle.std.specs.List.{AllByRecursion}
-use Rattle.std.proofs.ByRecursion.{All-drop}
+use Rattle.std.specs.Prelude.{All}
+use Rattle.std.proofs.lemmas.List.Elements.{All-nil, All-cons, All-drop}
 use Rattle.std.proofs.lemmas.List.{append_assoc}
 use Rattle.members.specs.Bytes.{Bytes, number_in, number_bytes}
 use Rattle.members.specs.Lines.{line_bytes, line_at, lines_in, text_of, before}
@@ -26,7 +26,7 @@ death_bytes : (bs : List ℕ) → Bytes bs → get_or bs 0 0 ≡ 1 → 5 ≤ len
 death_bytes [] p k h = absurd (omega arith)
 death_bytes (b ∷ []) p k h = absurd (omega arith)
 death_bytes (b ∷ m ∷ bs) p k h =
-    (ap (λ x. x ∷ m ∷ bs) k ∙ ap (λ l. 1 ∷ m ∷ l) (sym (number_read bs p.1.1 (omega arith))), (p.1.0, number_small bs p.1.1))
+    (ap (λ x. x ∷ m ∷ bs) k ∙ ap (λ l. 1 ∷ m ∷ l) (sym (number_read bs (All-drop (λ b. b < 256) 2 (b ∷ m ∷ bs) p) (omega arith))), (p 1 0 (omega arith), number_small bs (All-drop (λ b. b < 256) 2 (b ∷ m ∷ bs) p)))
 
 pub line_is_its_bytes : LineIsItsBytes
 line_is_its_bytes bs x p =
@@ -36,8 +36,8 @@ pub lines_read_back : LinesReadBack
 lines_read_back [] bs s = refl
 lines_read_back (l ∷ ls) bs s =
     ap text_of (append_assoc (line_bytes l) (lines_bytes ls) bs)
-    ∙ text_some _ (l, lines_bytes ls ++ bs) (line_reads_back l (lines_bytes ls ++ bs) s.0)
-    ∙ ap (before l) (lines_read_back ls bs s.1)
+    ∙ text_some _ (l, lines_bytes ls ++ bs) (line_reads_back l (lines_bytes ls ++ bs) (s 0 l (omega arith)))
+    ∙ ap (before l) (lines_read_back ls bs (All-drop Sized 1 (l ∷ ls) s))
 
 -- what follows a line is bytes too
 rest_bytes : (bs : List ℕ) (x : Line × List ℕ) → Bytes bs → line_at bs ≡ Some x → Bytes x.1
@@ -49,7 +49,7 @@ lines_at n less bs h p None e =
     let t = text_none bs e in
     record {
       split = sym (ap (λ t. lines_bytes t.lines ++ t.left) t);
-      sized = subst (λ t. AllByRecursion Sized t.lines) (sym t) tt;
+      sized = subst (λ t. All Sized t.lines) (sym t) (All-nil Sized);
       stuck = ap (λ t. line_at t.left) t ∙ e;
     }
 lines_at n less bs h p (Some x) e =
@@ -58,13 +58,13 @@ lines_at n less bs h p (Some x) e =
     let first = line_is_its_bytes bs x p e in
     record {
       split = first.0 ∙ ap (λ l. line_bytes x.0 ++ l) rest.split ∙ sym (append_assoc (line_bytes x.0) (lines_bytes (text_of x.1).lines) (text_of x.1).left) ∙ sym (ap (λ t. lines_bytes t.lines ++ t.left) t);
-      sized = subst (λ t. AllByRecursion Sized t.lines) (sym t) (first.1, rest.sized);
+      sized = subst (λ t. All Sized t.lines) (sym t) (All-cons Sized x.0 (text_of x.1).lines first.1 rest.sized);
       stuck = ap (λ t. line_at t.left) t ∙ rest.stuck;
     }
 
 lines_within : (n : ℕ) (bs : List ℕ) → length bs ≤ n → Bytes bs → LinesOf bs
 unfolding lines_in
-lines_within zero [] h p = record { split = refl; sized = tt; stuck = refl }
+lines_within zero [] h p = record { split = refl; sized = All-nil Sized; stuck = refl }
 lines_within zero (b ∷ bs) h p = absurd (omega arith)
 lines_within (suc n) bs h p = lines_at n (lines_within n) bs h p (line_at bs) refl
 

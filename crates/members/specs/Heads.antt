@@ -1,12 +1,12 @@
 -- The head of a book: what its bytes say, and when they are turned away. Assumes nothing.
-use Rattle.std.specs.Prelude.{◌≡◌, ℕ, ◌+◌, ◌*◌, ◌<◌, ◌≤◌, Bool, true, cond, not, List, ◌++◌, map, length, drop, Some, None, Ok, Err, Option, Result, nat_lt, slice_index, slice_index_or}
+use Rattle.std.specs.Prelude.{◌≡◌, ℕ, ◌+◌, ◌*◌, ◌<◌, ◌≤◌, Bool, if◌then◌else◌, not, List, ◌++◌, map, length, drop, Some, None, Ok, Err, Option, Result, nat_lt, slice_index, slice_index_or}
 use Rattle.std.proofs.Common.{sym, subst, ⊎_elim, arith}
 use Rattle.std.specs.List.{range_with_len, prefix_len}
 use Rattle.std.proofs.lemmas.List.FromFn.{length-map-range_with_len, get_or-map-range_with_len}
 use Rattle.std.proofs.lemmas.List.{get_or_past}
 use Rattle.std.proofs.lemmas.Bool.{cases_lt}
 use Rattle.members.specs.Bytes.{number_in, weight_for}
-use Rattle.members.specs.Limits.{Weight, most_members, most_weight, ages, table_at, weight_size, members_at, member_size, clamped, good_weight, good_age, good_stake, good_count}
+use Rattle.members.specs.Limits.{Weight, most_weight, ages, table_at, weight_size, members_at, member_size, clamped, good_weight, good_age, good_stake, good_count}
 use Rattle.members.specs.Lines.{line_count}
 use Rattle.members.specs.Members.{newcomer}
 use Rattle.members.specs.declared.head.Head.{Head}
@@ -91,24 +91,25 @@ bad_stake bs n = first_bad (λ i. good_stake (stake_at bs i)) n
 -- the head of a book that is long enough for n members, or the first ground on which its weights, ages or stakes turn it away
 abbrev pub entries_of : List ℕ → ℕ → Result Head Refusal
 entries_of bs n =
-    cond (nat_lt (bad_weight bs) ages) (Err (refusal.Table (bad_weight bs)))
-    (cond (nat_lt (bad_age bs n) n) (Err (refusal.Age (bad_age bs n)))
-    (cond (nat_lt (bad_stake bs n) n) (Err (refusal.Stake (bad_stake bs n)))
-    (Ok (record { count = n; table = table_of bs }))))
+    if nat_lt (bad_weight bs) ages then Err (refusal.Table (bad_weight bs))
+    else (if nat_lt (bad_age bs n) n then Err (refusal.Age (bad_age bs n))
+    else (if nat_lt (bad_stake bs n) n then Err (refusal.Stake (bad_stake bs n))
+    else Ok (record { count = n; table = table_of bs })))
 
 -- the head of a book, or the first ground on which it is turned away
 abbrev pub head_of : List ℕ → Result Head Refusal
 head_of bs =
-    cond (not (good_count (announced bs))) (Err refusal.Count)
-    (cond (nat_lt (length bs) (head_length (announced bs))) (Err (refusal.Table (length bs)))
-    (entries_of bs (announced bs)))
+    if not (good_count (announced bs)) then Err refusal.Count
+    else (if nat_lt (length bs) (head_length (announced bs)) then Err (refusal.Table (length bs))
+    else entries_of bs (announced bs))
 
 -- the first memory that is too short, where so many places are lent for members
 abbrev pub lacking : ℕ → Room → List ℕ → Option Memory
 lacking places room bs =
-    cond (nat_lt places (announced bs)) (Some Members)
-    (cond (nat_lt room.cents (announced bs)) (Some Cents)
-    (cond (nat_lt room.lines (line_count (after_head bs))) (Some Lines) None))
+    if nat_lt places (announced bs) then Some Members
+    else (if nat_lt room.cents (announced bs) then Some Cents
+    else (if nat_lt room.lines (line_count (after_head bs)) then Some Lines
+    else None))
 
 -- want of memory is told of before all else
 abbrev pub unless_lacking : Option Memory → Result Head Refusal → Result Head Refusal
@@ -128,12 +129,4 @@ seated (Err e) bs places = places
 
 -- what a check of n numbers hands on, or the refusal at the first of them that is bad
 abbrev pub checked : {A : Type 0} → ℕ → ℕ → (ℕ → Refusal) → A → Result A Refusal
-checked bad n why x = cond (nat_lt bad n) (Err (why bad)) (Ok x)
-
--- the i-th member of a book can be made: the book is long enough for it, its age and its stake are in bounds, and the table is the book's
-pub record Known (bs : List ℕ) (t : Table) (i : ℕ) : Type 0 where
-  pub few : i < most_members
-  pub long : head_length (i + 1) ≤ length bs
-  pub table : t ≡ table_of bs
-  pub aged : good_age (age_at bs i) ≡ true
-  pub staked : good_stake (stake_at bs i) ≡ true
+checked bad n why x = if nat_lt bad n then Err (why bad) else Ok x

@@ -1,4 +1,6 @@
 pub mod Bytes
+pub mod Checks
+pub mod Founding
 pub mod Heads
 pub mod Limits
 pub mod Lines

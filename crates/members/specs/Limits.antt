@@ -1,5 +1,6 @@
 -- The bounds of a society, as facts and as tests, and the places of its parts in a book. Assumes nothing.
-use Rattle.std.specs.Prelude.{ℕ, ◌+◌, ◌*◌, ◌≤◌, min, max, Bool, ◌&&◌, nat_le}
+use Rattle.std.specs.Prelude.{ℕ, ◌+◌, ◌*◌, min, max, Bool}
+use Rattle.std.specs.Int.{is_in_range, IsInRange}
 
 -- a society has 1 to this many members
 abbrev pub most_members : ℕ
@@ -43,31 +44,27 @@ member_size = 5
 
 -- w can be a weight
 abbrev pub Weight : ℕ → Type 0
-Weight w = (1 ≤ w) × (w ≤ most_weight)
+Weight w = IsInRange 1 most_weight w
 
 -- s can be a stake
 abbrev pub Stake : ℕ → Type 0
-Stake s = (1 ≤ s) × (s ≤ most_stake)
-
--- whether n is from low to high
-abbrev pub from_to : ℕ → ℕ → ℕ → Bool
-from_to low high n = nat_le low n && nat_le n high
+Stake s = IsInRange 1 most_stake s
 
 -- whether w can be a weight
 abbrev pub good_weight : ℕ → Bool
-good_weight w = from_to 1 most_weight w
+good_weight w = is_in_range 1 most_weight w
 
 -- whether s can be a stake
 abbrev pub good_stake : ℕ → Bool
-good_stake s = from_to 1 most_stake s
+good_stake s = is_in_range 1 most_stake s
 
 -- whether a can be the age of a member
 abbrev pub good_age : ℕ → Bool
-good_age a = from_to first_age last_age a
+good_age a = is_in_range first_age last_age a
 
 -- whether n can be the number of members
 abbrev pub good_count : ℕ → Bool
-good_count n = from_to 1 most_members n
+good_count n = is_in_range 1 most_members n
 
 -- n brought into the bounds 1 and most, which changes nothing within them
 abbrev pub clamped : ℕ → ℕ → ℕ

@@ -1,5 +1,5 @@
 -- The lines of a book as bytes, and bytes as lines. Assumes nothing.
-use Rattle.std.specs.Prelude.{ℕ, zero, suc, ◌+◌, cond, List, [], ◌∷◌, length, drop, Some, None, Option, ◌==◌, nat_lt, slice_index}
+use Rattle.std.specs.Prelude.{ℕ, zero, suc, ◌+◌, if◌then◌else◌, List, [], ◌∷◌, length, drop, Some, None, Option, ◌==◌, nat_lt, slice_index}
 use Rattle.std.specs.Borrow.{Bor}
 use Rattle.std.specs.Option.{option_map}
 use Rattle.members.specs.Bytes.{number_in, number_bytes}
@@ -14,15 +14,16 @@ line_bytes WoundUp = 3 ∷ []
 
 -- the death whose bytes, after its kind, begin these, and the bytes after it; none where they end in the death
 unfoldable pub death_at : List ℕ → Option (Line × List ℕ)
-death_at bs = cond (nat_lt (length bs) 5) None (Some (Death (slice_index bs 0) (number_in (drop 1 bs)), drop 5 bs))
+death_at bs = if nat_lt (length bs) 5 then None else Some (Death (slice_index bs 0) (number_in (drop 1 bs)), drop 5 bs)
 
 -- the line that begins these bytes and the bytes after it, or none: where there are no bytes, where the first is no line's kind, or where they end in the line
 abbrev pub line_at : List ℕ → Option (Line × List ℕ)
 line_at [] = None
 line_at (kind ∷ rest) =
-    cond (kind == 1) (death_at rest)
-    (cond (kind == 2) (Some (NewYear, rest))
-    (cond (kind == 3) (Some (WoundUp, rest)) None))
+    if kind == 1 then death_at rest
+    else (if kind == 2 then Some (NewYear, rest)
+    else (if kind == 3 then Some (WoundUp, rest)
+    else None))
 
 -- what a reader handed on: a line, and what the part after it holds
 abbrev pub handed : Option (Line × Bor (List ℕ)) → Option (Line × List ℕ)

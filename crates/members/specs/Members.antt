@@ -1,5 +1,5 @@
 -- Members as values. Assumes nothing.
-use Rattle.std.specs.Prelude.{ℕ, true, false}
+use Rattle.std.specs.Prelude.{ℕ, true, false, List, ◌++◌, codes, decimal}
 use Rattle.std.proofs.Common.{arith}
 use Rattle.members.specs.Limits.{most_weight, most_stake, clamped}
 use Rattle.members.specs.declared.member.Member.{Member}
@@ -20,3 +20,7 @@ newcomer number age weight stake = record {
 -- what stands in a place of lent memory that no member has taken
 abbrev pub nobody : Member
 nobody = record { number = 0; age = 0; weight = 1; stake = 1; paid = 0; alive = false; weighs = (omega arith, omega arith); staked = (omega arith, omega arith) }
+
+-- what a member was paid, as it is told at the end
+abbrev pub paid_line : Member → List ℕ
+paid_line m = decimal m.number ++ codes " paid " ++ decimal m.paid

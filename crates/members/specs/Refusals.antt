@@ -1,5 +1,5 @@
 -- The number and the place by which a refusal is told. Assumes nothing.
-use Rattle.std.specs.Prelude.{◌≡◌, ℕ}
+use Rattle.std.specs.Prelude.{◌≡◌, ℕ, List, ◌++◌, codes, decimal}
 use Rattle.members.specs.declared.refusal.Memory.{Memory}
 use Rattle.members.specs.declared.refusal.Memory.TheVariants as memory
 use Rattle.members.specs.declared.refusal.Refusal.{Refusal}
@@ -30,3 +30,7 @@ place_of (Short memory) = memory_place memory
 -- number and place tell refusals apart
 abbrev pub ToldApart : Type 0
 ToldApart = (a b : Refusal) → number_of a ≡ number_of b → place_of a ≡ place_of b → a ≡ b
+
+-- how a refusal is told
+abbrev pub told_as : Refusal → List ℕ
+told_as r = codes "refused " ++ decimal (number_of r) ++ codes " at " ++ decimal (place_of r)

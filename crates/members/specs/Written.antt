@@ -1,6 +1,6 @@
 -- Books as they are written, and what reading them gives. Assumes nothing.
-use Rattle.std.specs.Prelude.{◌≡◌, ℕ, ◌^◌, ◌<◌, ◌≤◌, true, List, ◌∷◌, ◌++◌, length, Some, None, Ok, slice_index_or}
-use Rattle.std.specs.List.{flat_map, AllByRecursion}
+use Rattle.std.specs.Prelude.{◌≡◌, ℕ, ◌^◌, ◌<◌, ◌≤◌, true, List, ◌∷◌, ◌++◌, length, Some, None, Ok, slice_index_or, All}
+use Rattle.std.specs.List.{flat_map}
 use Rattle.members.specs.Bytes.{Bytes, number_bytes, weight_for}
 use Rattle.members.specs.Heads.{answer, table_of, members_of, after_head}
 use Rattle.members.specs.Limits.{most_members, good_age}
@@ -33,12 +33,12 @@ LineIsItsBytes = (bs : List ℕ) (x : Line × List ℕ) → Bytes bs → line_at
 
 -- lines that are written are read, whatever follows them
 abbrev pub LinesReadBack : Type 0
-LinesReadBack = (ls : List Line) (bs : List ℕ) → AllByRecursion Sized ls → text_of (lines_bytes ls ++ bs) ≡ record { lines = ls ++ (text_of bs).lines; left = (text_of bs).left }
+LinesReadBack = (ls : List Line) (bs : List ℕ) → All Sized ls → text_of (lines_bytes ls ++ bs) ≡ record { lines = ls ++ (text_of bs).lines; left = (text_of bs).left }
 
 -- bytes are those of the lines that are read from them, and then bytes at which no line can be read
 pub record LinesOf (bs : List ℕ) : Type 0 where
   pub split : bs ≡ lines_bytes (text_of bs).lines ++ (text_of bs).left
-  pub sized : AllByRecursion Sized (text_of bs).lines
+  pub sized : All Sized (text_of bs).lines
   pub stuck : line_at (text_of bs).left ≡ None
 
 -- so it is with all bytes

@@ -1,6 +1,7 @@
-// Members, the table of weights, and the reader of a book's head and of its lines.
+//! Members, the table of weights, and the reader of a book's head and of its lines.
 #![tactic(auto)]
 
+mod entries;
 mod head;
 mod limits;
 mod line;

@@ -1,39 +1,50 @@
-// The bounds of a society, where its parts stand in a book, and the check of a bound.
+//! The bounds of a society, where its parts stand in a book, and the check of a bound.
 ghost use Rattle.std.specs.Prelude.{◌≡◌, if◌then◌else◌, Some, None};
-ghost use Rattle.members.specs.Limits.{from_to};
+ghost use Rattle.std.specs.Int.{is_in_range};
 
-// A society has 1 to this many members.
-pub(crate) const MOST_MEMBERS: u64 = 64;
+/// The least and the largest number that can stand for something.
+#[derive(Clone, Copy)]
+pub(crate) struct Bounds {
+    pub(crate) low: u64,
+    pub(crate) high: u64,
+}
 
-// A weight, the deaths in a year among 100,000 people of one age, is 1 to this.
-pub(crate) const MOST_WEIGHT: u64 = 100_000;
+/// How many members a society has.
+pub(crate) const MEMBERS: Bounds = Bounds { low: 1, high: 64 };
 
-// A stake in cents is 1 to this.
-pub(crate) const MOST_STAKE: u64 = 100_000_000;
+/// A weight, the deaths in a year among 100,000 people of one age.
+pub(crate) const WEIGHTS: Bounds = Bounds {
+    low: 1,
+    high: 100_000,
+};
 
-// The ages that the table has: the first, the last, and how many.
-pub(crate) const FIRST_AGE: u64 = 40;
+/// A stake, in cents.
+pub(crate) const STAKES: Bounds = Bounds {
+    low: 1,
+    high: 100_000_000,
+};
 
-pub(crate) const LAST_AGE: u64 = 110;
+/// The ages that the table has.
+pub(crate) const AGES: Bounds = Bounds { low: 40, high: 110 };
 
-pub(crate) const AGES: usize = 71;
+/// How many they are.
+pub(crate) const TABLE_LENGTH: usize = 71;
 
-// The table stands after the byte that counts the members, four bytes to a weight.
+/// The table stands after the byte that counts the members, four bytes to a weight.
 pub(crate) const TABLE_AT: usize = 1;
 
 pub(crate) const WEIGHT_SIZE: usize = 4;
 
-// The members stand after the table, each with a byte of age and four of stake.
-pub(crate) const MEMBERS_AT: usize = TABLE_AT + WEIGHT_SIZE * AGES;
+/// The members stand after the table, each with a byte of age and four of stake.
+pub(crate) const MEMBERS_AT: usize = TABLE_AT + WEIGHT_SIZE * TABLE_LENGTH;
 
 pub(crate) const MEMBER_SIZE: usize = 5;
 
-// A number that lies within its bounds, or none.
-pub(crate) fn bounded(n: u64, low: u64, high: u64) -> Option<u64>
-    ensures { result ≡ (if from_to low high n then Some n else None) }
-{
-    if n < low || n > high {
-        return None;
+impl Bounds {
+    /// A number that lies within the bounds, or none.
+    pub(crate) fn bounded(self, n: u64) -> Option<u64>
+        ensures { result ≡ (if is_in_range self.low self.high n then Some n else None) }
+    {
+        (self.low..=self.high).contains(&n).then_some(n)
     }
-    Some(n)
 }

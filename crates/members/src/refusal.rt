@@ -1,8 +1,12 @@
-// Why a book's head is turned away.
-ghost use Rattle.std.specs.Prelude.{◌≡◌};
-ghost use Rattle.members.specs.Refusals.{number_of, place_of, ToldApart};
+//! Why a book's head is turned away.
+ghost use Rattle.std.specs.Prelude.{◌≡◌, Some};
+ghost use Rattle.members.specs.Refusals.{number_of, place_of, told_as, ToldApart};
+ghost use Rattle.members.specs.declared.refusal.Refusal.TheVariants.{Short};
 
-// A memory that is lent to the reader.
+use std::error::Error;
+use std::fmt;
+
+/// A memory that is lent to the reader.
 #[derive(Clone, Copy, PartialEq, Eq, Debug)]
 pub enum Memory {
     Members,
@@ -12,20 +16,40 @@ pub enum Memory {
 
 #[derive(Clone, Copy, PartialEq, Eq, Debug)]
 pub enum Refusal {
-    // no members, or more than a society can have
+    /// no members, or more than a society can have
     Count,
-    // the book ends before its lines begin, told by its length; or a weight is out of bounds, told by its index
+    /// the book ends before its lines begin, told by its length; or a weight is out of bounds, told by its index
     Table { place: usize },
-    // the age of a member is not one of the table's
+    /// the age of a member is not one of the table's
     Age { member: usize },
-    // the stake of a member is out of bounds
+    /// the stake of a member is out of bounds
     Stake { member: usize },
-    // too little memory was lent
+    /// too little memory was lent
     Short(Memory),
 }
 
+impl fmt::Display for Refusal {
+    ghost output = { λ refusal. Some (told_as refusal) };
+
+    fn fmt<W: fmt::Write>(&self, f: &mut fmt::Formatter<W>) -> fmt::Result {
+        let number = self.number();
+        let place = self.place();
+        write!(f, "refused {number} at {place}")
+    }
+}
+
+impl Error for Refusal {}
+
+impl From<Memory> for Refusal {
+    ghost from_gives = { λ memory refusal. refusal ≡ Short memory };
+
+    fn from(memory: Memory) -> Refusal {
+        Refusal::Short(memory)
+    }
+}
+
 impl Refusal {
-    // The number by which a refusal is told. With its place it names one refusal.
+    /// The number by which a refusal is told. With its place it names one refusal.
     pub fn number(&self) -> u8
         ensures value { result ≡ number_of self.now }
         ensures apart { ToldApart }
@@ -39,7 +63,7 @@ impl Refusal {
         }
     }
 
-    // Where in the book, or in which memory, the ground of the refusal lies.
+    /// Where in the book, or in which memory, the ground of the refusal lies.
     pub fn place(&self) -> usize
         ensures { result ≡ place_of self.now }
     {

@@ -1,4 +1,4 @@
-// The edges of the format, run.
+//! The edges of the format, run.
 use crate::head::*;
 use crate::line::*;
 use crate::member::*;
@@ -24,11 +24,9 @@ fn sample(heap: Global, count: u8) -> Result<Vec<u8>, AllocError> {
 
 // Writes bytes over those of the book from a place on.
 fn put(book: &mut Vec<u8>, at: usize, bytes: &[u8]) -> Result<(), Fail> {
-    for (i, b) in bytes.iter().enumerate() {
-        let place = at.checked_add(i).ok_or("past the end")?;
-        let slot = book.get_mut(place).ok_or("past the end")?;
-        *slot = *b;
-    }
+    let end = at.checked_add(bytes.len()).ok_or("past the end")?;
+    let place = book.as_mut_slice().get_mut(at..end).ok_or("past the end")?;
+    place.copy_from_slice(bytes);
     Ok(())
 }
 
@@ -39,10 +37,9 @@ fn answer(book: &[u8]) -> Result<usize, (u8, usize)> {
         cents: PLACES,
         lines: 100,
     };
-    match read_head(book, &mut members, room) {
-        Ok(head) => Ok(head.count),
-        Err(refusal) => Err((refusal.number(), refusal.place())),
-    }
+    read_head(book, &mut members, room)
+        .map(|head| head.count)
+        .map_err(|refusal| (refusal.number(), refusal.place()))
 }
 
 #[test]
@@ -59,8 +56,7 @@ fn counts(rt: HostRuntime) -> Result<(), Fail> {
 
 // A number of the book at its bounds, just outside them and at its largest; `refused` is what is said of those outside.
 fn bounds(
-    rt: &impl Abort,
-    heap: Global,
+    rt: &(impl Abort + AllocGlobal),
     at: usize,
     most: u32,
     above: u32,
@@ -74,7 +70,7 @@ fn bounds(
         (u32::MAX, Err(refused)),
     ];
     for (n, expected) in cases {
-        let mut book = sample(heap, 3)?;
+        let mut book = sample(rt.alloc(), 3)?;
         put(&mut book, at, &n.to_le_bytes())?;
         assert_eq!(rt; answer(book.as_slice()), expected);
     }
@@ -84,11 +80,10 @@ fn bounds(
 // The first weight and the last, the first member's stake and the last's.
 #[test]
 fn numbers(rt: HostRuntime) -> Result<(), Fail> {
-    let heap = rt.alloc();
-    bounds(&rt, heap, 1, 100_000, 100_001, (2, 0))?;
-    bounds(&rt, heap, 281, 100_000, 100_001, (2, 70))?;
-    bounds(&rt, heap, 286, 100_000_000, 100_000_001, (4, 0))?;
-    bounds(&rt, heap, 296, 100_000_000, 100_000_001, (4, 2))
+    bounds(&rt, 1, 100_000, 100_001, (2, 0))?;
+    bounds(&rt, 281, 100_000, 100_001, (2, 70))?;
+    bounds(&rt, 286, 100_000_000, 100_000_001, (4, 0))?;
+    bounds(&rt, 296, 100_000_000, 100_000_001, (4, 2))
 }
 
 #[test]
@@ -187,9 +182,7 @@ fn places(rt: HostRuntime) -> Result<(), Fail> {
     put(&mut book, 281, &[7, 0, 0, 0])?;
     let room = Room { cents: 2, lines: 0 };
     let mut members = [Member::nobody(); 3];
-    let Ok(head) = read_head(book.as_slice(), &mut members, room) else {
-        return Err(Fail::new("refused"));
-    };
+    let head = read_head(book.as_slice(), &mut members, room)?;
     assert_eq!(rt; head.count, 2);
     assert_eq!(rt; head.table.weight(39), None);
     assert_eq!(rt; head.table.weight(40), Some(1000));
@@ -212,9 +205,7 @@ fn makes_members(rt: HostRuntime) -> Result<(), Fail> {
     assert_eq!(rt; Member::new(0, 50, 100_001, 1), None);
     assert_eq!(rt; Member::new(0, 50, 1, 0), None);
     assert_eq!(rt; Member::new(0, 50, 1, 100_000_001), None);
-    let Some(largest) = Member::new(63, 110, 100_000, 100_000_000) else {
-        return Err(Fail::new("out of bounds"));
-    };
+    let largest = Member::new(63, 110, 100_000, 100_000_000).ok_or("out of bounds")?;
     assert_eq!(rt; largest.exposure(), 10_000_000_000_000);
     Ok(())
 }
@@ -223,9 +214,7 @@ fn makes_members(rt: HostRuntime) -> Result<(), Fail> {
 #[test]
 fn lines(rt: HostRuntime) -> Result<(), Fail> {
     let part = [1, 9, 4, 3, 2, 1, 2, 3, 1, 0, 0, 0, 0];
-    let Some((line, rest)) = read_line(&part) else {
-        return Err(Fail::new("no line"));
-    };
+    let (line, rest) = read_line(&part).ok_or("no line")?;
     assert_eq!(rt;
         line,
         Line::Death {
@@ -234,13 +223,9 @@ fn lines(rt: HostRuntime) -> Result<(), Fail> {
         }
     );
     assert_eq!(rt; rest.len(), 7);
-    let Some((line, rest)) = read_line(rest) else {
-        return Err(Fail::new("no line"));
-    };
+    let (line, rest) = read_line(rest).ok_or("no line")?;
     assert_eq!(rt; line, Line::NewYear);
-    let Some((line, rest)) = read_line(rest) else {
-        return Err(Fail::new("no line"));
-    };
+    let (line, rest) = read_line(rest).ok_or("no line")?;
     assert_eq!(rt; line, Line::WoundUp);
     // a death that is a byte short
     assert_eq!(rt; rest.len(), 5);

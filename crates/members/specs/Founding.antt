@@ -1,0 +1,16 @@
+-- What the checks of a head hand on. It serves functions that no other crate can call. Assumes nothing: these are definitions.
+use Rattle.std.specs.Prelude.{Some, None, Ok, Err, Option, Result}
+use Rattle.members.specs.declared.entries.Founding.{Founding}
+use Rattle.members.specs.declared.head.Head.{Head}
+use Rattle.members.specs.declared.refusal.Memory.{Memory}
+use Rattle.members.specs.declared.refusal.Refusal.{Refusal}
+
+-- the head that is told of
+abbrev pub outcome : Result Founding Refusal → Result Head Refusal
+outcome (Ok f) = Ok (record { count = f.entries.count; table = f.table })
+outcome (Err e) = Err e
+
+-- whether no memory is too short
+abbrev pub room_for : Option Memory → Result (Unit {0}) Memory
+room_for None = Ok tt
+room_for (Some m) = Err m
