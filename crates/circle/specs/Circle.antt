@@ -1,11 +1,11 @@
 -- The circle of units: how many each member has, where they lie, whose each of them is, and the turn. Assumes nothing: these are definitions.
-use Rattle.std.specs.Prelude.{ℕ, zero, suc, ◌+◌, ◌-◌, ◌*◌, ◌^◌, ◌<◌, ◌≤◌, max, cond, List, [], ◌∷◌, nat_lt, slice_index_or}
+use Rattle.std.specs.Prelude.{ℕ, zero, suc, ◌+◌, ◌-◌, ◌*◌, ◌^◌, ◌<◌, ◌≤◌, max, if◌then◌else◌, List, [], ◌∷◌, nat_lt, slice_index_or}
 use Rattle.members.specs.Members.{nobody}
 use Rattle.members.specs.declared.member.Member.{Member}
 
 -- the cents that go to the others when a member dies: its stake while it lives, and none once it is dead
 unfoldable pub at_risk : Member → ℕ
-at_risk m = cond m.alive m.stake 0
+at_risk m = if m.alive then m.stake else 0
 
 -- how many units a member has: its weight times its cents at risk
 unfoldable pub units : Member → ℕ
@@ -35,11 +35,11 @@ start (m ∷ ms) (suc place) = units m + start ms place
 -- the place of the member whose unit u is; past the last unit it is the list's length, where no member stands
 unfoldable pub owner : List Member → ℕ → ℕ
 owner [] u = 0
-owner (m ∷ ms) u = cond (nat_lt u (units m)) 0 (suc (owner ms (u - units m)))
+owner (m ∷ ms) u = if nat_lt u (units m) then 0 else suc (owner ms (u - units m))
 
 -- unit u of a circle of w units, turned by so many: they are added, and w is taken off if that makes w or more
 unfoldable pub turned : ℕ → ℕ → ℕ → ℕ
-turned w by u = cond (nat_lt (u + by) w) (u + by) (u + by - w)
+turned w by u = if nat_lt (u + by) w then u + by else u + by - w
 
 -- the member at a place of the list, and past its end the record of an empty place, which has no units
 abbrev pub member_of : List Member → ℕ → Member

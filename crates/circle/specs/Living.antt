@@ -1,18 +1,18 @@
 -- The circle when members without units are taken out of the list. Assumes nothing: these are definitions and statements.
-use Rattle.std.specs.Prelude.{◌≡◌, ℕ, zero, suc, ◌<◌, cond, List, [], ◌∷◌, length}
+use Rattle.std.specs.Prelude.{◌≡◌, ℕ, zero, suc, ◌<◌, if◌then◌else◌, List, [], ◌∷◌, length}
 use Rattle.members.specs.declared.member.Member.{Member}
 use Rattle.circle.specs.Circle.{units, whole, most, start, owner, member_of}
 
 -- those who live, in their order
 unfoldable pub living : List Member → List Member
 living [] = []
-living (m ∷ ms) = cond m.alive (m ∷ living ms) (living ms)
+living (m ∷ ms) = if m.alive then m ∷ living ms else living ms
 
 -- the place in the list of the i-th of those who live; past the last of them, a place past the list's end
 unfoldable pub stood : List Member → ℕ → ℕ
 stood [] i = i
-stood (m ∷ ms) zero = cond m.alive 0 (suc (stood ms 0))
-stood (m ∷ ms) (suc i) = cond m.alive (suc (stood ms i)) (suc (stood ms (suc i)))
+stood (m ∷ ms) zero = if m.alive then 0 else suc (stood ms 0)
+stood (m ∷ ms) (suc i) = if m.alive then suc (stood ms i) else suc (stood ms (suc i))
 
 -- all but the member at place k, in their order
 unfoldable pub without : ℕ → List Member → List Member

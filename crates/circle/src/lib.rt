@@ -1,4 +1,4 @@
-// The circle of units: how many each member has, where they lie, whose each of them is, and the turn.
+//! The circle of units: how many each member has, where they lie, whose each of them is, and the turn.
 #![tactic(auto)]
 
 mod circle;

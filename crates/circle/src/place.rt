@@ -1,4 +1,4 @@
-// Where the units of each member lie, and whose each unit is. A member goes by its place in the slice, which is its number in a society.
+//! Where the units of each member lie, and whose each unit is. A member goes by its place in the slice, which is its number in a society.
 ghost use Rattle.std.specs.Prelude.{◌≡◌};
 ghost use Rattle.circle.specs.Answers.{start_answer, owner_answer};
 ghost use Rattle.circle.specs.Laws.{OneOwner, OwnsItsUnits, EndToEnd};
@@ -7,7 +7,7 @@ use crate::circle::Circle;
 use crate::holding::units;
 use members::Member;
 
-// Where the units of the member at a place start; none where there is no such member, or where too many units lie before it.
+/// Where the units of the member at a place start; none where there is no such member, or where too many units lie before it.
 pub fn start(members: &[Member], place: usize) -> Option<u64>
     ensures value { result ≡ start_answer members.now place }
     ensures filled { EndToEnd }
@@ -19,7 +19,7 @@ pub fn start(members: &[Member], place: usize) -> Option<u64>
     Some(before.size)
 }
 
-// The place of the member whose unit it is; none past the last unit.
+/// The place of the member whose unit it is; none past the last unit.
 pub fn owner(members: &[Member], unit: u64) -> Option<usize>
     ensures value { result ≡ owner_answer members.now unit }
     ensures once { OneOwner }

@@ -1,4 +1,4 @@
-// Small circles against a plain reading of the rules, and the edges of large ones, run.
+//! Small circles against a plain reading of the rules, and the edges of large ones, run.
 use crate::circle::*;
 use crate::holding::*;
 use crate::place::*;
@@ -12,10 +12,7 @@ fn society(heap: Global, entries: &[(u32, u64)]) -> Result<Vec<Member>, Fail> {
     let mut members = Vec::new(heap);
     for (number, (weight, stake)) in entries.iter().enumerate() {
         let number = u8::try_from(number)?;
-        let Some(member) = Member::new(number, 50, *weight, *stake) else {
-            return Err(Fail::new("out of bounds"));
-        };
-        members.push(member)?;
+        members.push(Member::new(number, 50, *weight, *stake).ok_or("out of bounds")?)?;
     }
     Ok(members)
 }
@@ -26,10 +23,7 @@ fn died(mut member: Member) -> Member {
 }
 
 fn circle_of(members: &[Member]) -> Result<Circle, Fail> {
-    let Some(circle) = Circle::of(members) else {
-        return Err(Fail::new("too many units"));
-    };
-    Ok(circle)
+    Ok(Circle::of(members).ok_or("too many units")?)
 }
 
 // 2×5, 3×4 and 1×9: the seams between the members, and the one that the turn goes over.
@@ -83,11 +77,8 @@ fn empty(rt: HostRuntime) -> Result<(), Fail> {
 
 // The number of the member whose unit it is.
 fn name(members: &[Member], unit: u64) -> Option<u8> {
-    let place = owner(members, unit)?;
-    if place >= members.len() {
-        return None;
-    }
-    Some(members[place].number)
+    let member = members.get(owner(members, unit)?)?;
+    Some(member.number)
 }
 
 // A dead member keeps its place and has no units: the circle is that of the others alone.
@@ -153,18 +144,15 @@ fn laid_out(heap: Global, members: &[Member]) -> Result<Vec<usize>, AllocError> 
 
 // How many of them belong to places from one on and below another.
 fn count(owners: &[usize], from: usize, to: usize) -> u64 {
-    let mut found: u64 = 0;
-    for place in owners {
-        if from <= *place && *place < to {
-            found = found.saturating_add(1);
-        }
-    }
-    found
+    owners
+        .iter()
+        .filter(|&place| (from..to).contains(place))
+        .count() as u64
 }
 
 // Every function answers what is found in the circle as it is laid out.
-fn agrees(rt: &impl Abort, heap: Global, members: &[Member]) -> Result<(), Fail> {
-    let owners = laid_out(heap, members)?;
+fn agrees(rt: &(impl Abort + AllocGlobal), members: &[Member]) -> Result<(), Fail> {
+    let owners = laid_out(rt.alloc(), members)?;
     let owners = owners.as_slice();
     let circle = circle_of(members)?;
     let size = owners.len() as u64;
@@ -188,9 +176,9 @@ fn agrees(rt: &impl Abort, heap: Global, members: &[Member]) -> Result<(), Fail>
 
 // A member of one of 18 kinds: weight and stake up to 3, alive or dead.
 fn kind(number: u8, kind: u32) -> Result<Member, Fail> {
-    let Some(member) = Member::new(number, 50, 1 + kind % 3, 1 + u64::from(kind / 3 % 3)) else {
-        return Err(Fail::new("out of bounds"));
-    };
+    let member = Member::new(number, 50, 1 + kind % 3, 1 + u64::from(kind / 3 % 3)).ok_or(
+        "out of bounds",
+    )?;
     Ok(if kind < 9 { member } else { died(member) })
 }
 
@@ -201,7 +189,7 @@ fn small(rt: HostRuntime) -> Result<(), Fail> {
         for b in 0..18 {
             for c in 0..18 {
                 let members = [kind(0, a)?, kind(1, b)?, kind(2, c)?];
-                agrees(&rt, rt.alloc(), &members)?;
+                agrees(&rt, &members)?;
             }
         }
     }
