@@ -1,5 +1,5 @@
 -- What sharing out a stake answers, and what the lent memory holds then. Assumes nothing: these are definitions.
-use Rattle.std.specs.Prelude.{◌≡◌, ℕ, ◌+◌, ◌*◌, ◌<◌, false, cond, List, ◌++◌, length, take, drop, Ok, Err, sum, Result, ◌==◌, nat_le, nat_lt, slice_index, slice_index_or}
+use Rattle.std.specs.Prelude.{◌≡◌, ℕ, ◌+◌, ◌*◌, ◌<◌, false, if◌then◌else◌, not, List, ◌++◌, length, take, drop, Ok, Err, sum, Result, ◌==◌, nat_le, nat_lt, slice_index, slice_index_or}
 use Rattle.members.specs.declared.member.Member.{Member}
 use Rattle.circle.specs.Circle.{unit_limit, at_risk, whole, most, start, owner, turned, member_of}
 use Rattle.circle.specs.Sums.{span, bit}
@@ -11,15 +11,15 @@ use Rattle.sharing.specs.declared.unshared.Unshared.TheVariants.{ShortMemory, No
 -- whether the stake of the member at place k can be shared out by the word r, or the first ground on which it cannot
 abbrev pub grounds : List Member → ℕ → ℕ → Result (Unit {0}) Unshared
 grounds ms k r =
-    cond (member_of ms k).alive
-    (cond (nat_lt r (member_of ms k).weight)
-    (cond (nat_lt (whole ms) unit_limit)
-    (cond (nat_le (2 * most ms) (whole ms)) (Ok tt)
-    (Err OverHalf)) (Err TooManyUnits)) (Err WordTooLarge)) (Err NotLiving)
+    if not (member_of ms k).alive then Err NotLiving
+    else (if nat_le (member_of ms k).weight r then Err WordTooLarge
+    else (if nat_le unit_limit (whole ms) then Err TooManyUnits
+    else (if nat_lt (whole ms) (2 * most ms) then Err OverHalf
+    else Ok tt)))
 
 -- the answer where memory for so many cents is lent; want of memory is told of before all else
 abbrev pub share_answer : ℕ → List Member → ℕ → ℕ → Result (Unit {0}) Unshared
-share_answer room ms k r = cond (nat_lt room (length ms)) (Err ShortMemory) (grounds ms k r)
+share_answer room ms k r = if nat_lt room (length ms) then Err ShortMemory else grounds ms k r
 
 -- the memory for cents after an answer: what each member gets, and behind that all as it was; after a refusal all as it was
 abbrev pub cents_after : Result (Unit {0}) Unshared → List Member → ℕ → ℕ → List ℕ → List ℕ

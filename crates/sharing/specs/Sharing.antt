@@ -1,5 +1,5 @@
 -- What each member gets of a dead one's stake. Assumes nothing: these are definitions.
-use Rattle.std.specs.Prelude.{ℕ, ◌+◌, ◌*◌, ◌≤◌, cond, List, map, length, ◌==◌}
+use Rattle.std.specs.Prelude.{ℕ, ◌+◌, ◌*◌, ◌≤◌, if◌then◌else◌, List, map, length, ◌==◌}
 use Rattle.std.specs.List.{range_with_len}
 use Rattle.members.specs.declared.member.Member.{Member}
 use Rattle.circle.specs.Circle.{at_risk, units, whole, most, start, owner, turned, member_of}
@@ -27,7 +27,7 @@ Balanced ms = 2 * most ms ≤ whole ms
 
 -- the sum of f over the numbers below n but for k
 abbrev pub span_others : ℕ → (ℕ → ℕ) → ℕ → ℕ
-span_others k f n = span (λ i. cond (i == k) 0 (f i)) n
+span_others k f n = span (λ i. if i == k then 0 else f i) n
 
 -- what the member at place j stands to get at the next death: over all deaths of others and all words, its cents
 unfoldable pub stands_to_get : List Member → ℕ → ℕ

@@ -1,4 +1,4 @@
-// A dead member's stake, dealt out cent by cent.
+//! A dead member's stake, dealt out cent by cent.
 ghost use Rattle.std.specs.Prelude.{◌≡◌, map, length, OnOk};
 ghost use Rattle.std.specs.List.{range_with_len};
 ghost use Rattle.circle.specs.Circle.{whole};
@@ -10,8 +10,8 @@ use crate::unshared::Unshared;
 use circle::units;
 use members::Member;
 
-// The member at a place dies, and this word was drawn: leaves in the memory for cents, for each member, what it gets of the stake; or
-// says why the stake cannot be shared out, and changes nothing.
+/// The member at a place dies, and this word was drawn: leaves in the memory for cents, for each member, what it gets of the stake; or
+/// says why the stake cannot be shared out, and changes nothing.
 pub fn share(members: &[Member], dead: usize, word: u32, cents: &mut [u64]) -> Result<(), Unshared>
     ensures value { result ≡ share_answer (length cents.old) members.now dead word }
     ensures cents { cents.new ≡ cents_after result members.now dead word cents.old }
@@ -23,11 +23,11 @@ pub fn share(members: &[Member], dead: usize, word: u32, cents: &mut [u64]) -> R
         return Err(Unshared::ShortMemory);
     }
     let estate = Estate::of(members, dead, word)?;
-    deal(members, &estate, &mut cents[0..count]);
+    deal(members, &estate, &mut cents[..count]);
     Ok(())
 }
 
-// Leaves with each of the others its part of the estate: a cent goes to the member whose unit it lands on.
+/// Leaves with each of the others its part of the estate: a cent goes to the member whose unit it lands on.
 fn deal(members: &[Member], estate: &Estate, cents: &mut [u64])
     requires circle { estate.now.circle.size ≡ whole members.now }
     requires places { length cents.old ≡ length members.now }

@@ -1,4 +1,4 @@
-// Sharing out the stake of a member that died.
+//! Sharing out the stake of a member that died.
 #![tactic(auto)]
 
 mod dealing;

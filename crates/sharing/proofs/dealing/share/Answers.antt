@@ -1,6 +1,4 @@
-use Rattle.std.proofs.Common.{◌≡◌, ◌-◌, ◌++◌, length, drop, sym, ◌∙◌, subst, ap₂, arith, rules}
-use borrow.Rule.Slice.PartMut.{post_of}
-use Rattle.std.proofs.lemmas.Slice.{overwrites}
+use Rattle.std.proofs.Common.{◌++◌, length, drop, sym, ap, ◌∙◌, subst, arith, rules}
 use Rattle.std.proofs.lemmas.Bool.Decides.{nat_tests}
 use Rattle.sharing.specs.Answers.{ToOthers}
 use Rattle.sharing.proofs.Shares.{dealt_given, to_others, one_death}
@@ -16,8 +14,7 @@ pub returns : goal.returns
 returns c =
     let ms = c.args.members.now in
     let estate = c.in_ok-estate.ensures in
-    let rest : post_of 0 (length ms - 0) c.args.cents.now ≡ drop (length ms) c.args.cents.now = search (rules, overwrites) in
-    let after = ap₂ (λ front back. front ++ back) (c.deal.ensures ∙ dealt_given ms c.args.dead c.args.word _ estate.left) rest in
+    let after = ap (λ front. front ++ drop (length ms) c.args.cents.now) (c.deal.ensures ∙ dealt_given ms c.args.dead c.args.word _ estate.left) in
     record {
       value = grind (arith, nat_tests);
       cents = after;

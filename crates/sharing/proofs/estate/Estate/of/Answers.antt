@@ -1,9 +1,10 @@
-use Rattle.std.proofs.Common.{◌*◌, ◌≤◌, sym, ap, ◌∙◌, arith}
+use Rattle.std.proofs.Common.{ℕ, ◌+◌, ◌*◌, ◌<◌, ◌≤◌, sym, ap, ◌∙◌, arith, rules}
 use Rattle.std.proofs.lemmas.Bool.Decides.{nat_tests}
 use Rattle.circle.specs.Circle.{whole, most}
 use Rattle.circle.proofs.Bounds.{at_risk_living}
 use Rattle.sharing.proofs.Estates.{living_in, found, start_lost, all_found, cent_within}
 use Rattle.sharing.proofs.estate.Estate.of.Goals as goal
+use Rattle.sharing.proofs.estate.Estate.of.Goals.{After-from-weight}
 
 pub returns-in_default-start : goal.returns-in_default-start
 returns-in_default-start c =
@@ -13,10 +14,14 @@ returns-in_default-start c =
     let weight = ap (λ m. m.weight) member.1 in
     record { value = grind (arith, nat_tests); left = tt }
 
-pub invariant_of-result : goal.invariant_of-result
-invariant_of-result c =
+-- the unit of each cent lies on the circle
+within : (c : After-from-weight) (n : ℕ) → n < c.in-Some.member.stake → c.in-Some-start.from + c.from-word.result + n * c.from-weight.result < c.in-Some-of.circle.size
+within c n h =
     let f = all_found c.args.members.now c.args.dead _ _ _ _ c.in-Some.ensures c.in-Some-start.ensures.value c.in-Some-of.ensures.value in
-    record { within = λ n h. omega (arith, cent_within c.args.members.now c.args.dead c.args.word n f.alive (omega arith) (omega arith), ap (λ w. n * w) (c.from-weight.ensures ∙ f.weight)) }
+    omega (arith, cent_within c.args.members.now c.args.dead c.args.word n f.alive (omega arith) (omega arith), ap (λ w. n * w) (c.from-weight.ensures ∙ f.weight))
+
+pub invariant_of-result : goal.invariant_of-result
+invariant_of-result c = let lies = within (goal.at.invariant_of-result c).After-from-weight in search rules
 
 pub returns : goal.returns
 returns c =
