@@ -1,19 +1,20 @@
-// The book of a tontine: reads a book from standard input and prints what it comes to.
+//! The book of a tontine: reads a book from standard input and prints what it comes to.
 #![tactic(auto)]
 
-use members::{Member, Refusal, Room, read_head};
+use members::{Member, Room, read_head};
 use std::io::Read;
 use std::process::ExitCode;
+use std::rt::Env;
 use std::{env, io};
 use thiserror::Error;
 
-// The longest book that is served.
+/// The longest book that is served.
 const MOST_BYTES: usize = 16_384;
 
-// One place for each member that a book can announce, so that too many members are told of as such.
+/// One place for each member that a book can announce, so that too many members are told of as such.
 const PLACES: usize = 255;
 
-// Why the program ends without having told of the book.
+/// Why the program ends without having told of the book.
 #[derive(Debug, Drop, Error)]
 enum Failure {
     #[error("usage: tontine < BOOK (unknown argument: {0})")]
@@ -24,7 +25,7 @@ enum Failure {
     System(#[from] io::Error),
 }
 
-// An error is told in the program's own name. One that is returned would be printed a second time.
+/// An error is told in the program's own name. One that is returned would be printed a second time.
 fn main(rt: HostRuntime) -> ExitCode {
     let Err(e) = run(&rt) else {
         return ExitCode::SUCCESS;
@@ -36,29 +37,21 @@ fn main(rt: HostRuntime) -> ExitCode {
 fn run(rt: &HostRuntime) -> Result<(), Failure> {
     check_arguments(rt)?;
     let book = read_book(rt)?;
-    let mut members = [Member::nobody(); PLACES];
-    // a line has a byte at least, so a book has no more lines than bytes
-    let room = Room {
-        cents: PLACES,
-        lines: MOST_BYTES,
-    };
-    match read_head(book.as_slice(), &mut members, room) {
-        Ok(head) => print_members(rt, &members, head.count),
-        Err(refusal) => print_refusal(rt, refusal),
-    }
+    tell(rt, book.as_slice())?;
+    Ok(())
 }
 
-fn check_arguments(rt: &HostRuntime) -> Result<(), Failure> {
+fn check_arguments(rt: &(impl Env + AllocGlobal)) -> Result<(), Failure> {
     let mut arguments = env::args(rt)?;
     // the first is the program's own name
     let _ = arguments.next();
-    let Some(unknown) = arguments.next() else {
-        return Ok(());
-    };
-    Err(Failure::UnknownArgument(unknown))
+    match arguments.next() {
+        Some(unknown) => Err(Failure::UnknownArgument(unknown)),
+        None => Ok(()),
+    }
 }
 
-// The whole of standard input, unless it is longer than a book may be.
+/// The whole of standard input, unless it is longer than a book may be.
 fn read_book(rt: &HostRuntime) -> Result<Vec<u8>, Failure> {
     let mut book = Vec::new(rt.alloc());
     rt.stdin()
@@ -70,18 +63,21 @@ fn read_book(rt: &HostRuntime) -> Result<Vec<u8>, Failure> {
     Ok(book)
 }
 
-fn print_members(rt: &HostRuntime, members: &[Member], count: usize) -> Result<(), Failure> {
-    for member in members.iter().take(count) {
-        let number = member.number;
-        let paid = member.paid;
-        println!(rt; "{number} paid {paid}")?;
+/// Prints what each member was paid, or why the book is turned away.
+fn tell(rt: &impl Print, book: &[u8]) -> io::Result<()> {
+    let mut members = [Member::nobody(); PLACES];
+    // a line has a byte at least, so a book has no more lines than bytes
+    let room = Room {
+        cents: PLACES,
+        lines: MOST_BYTES,
+    };
+    match read_head(book, &mut members, room) {
+        Ok(head) => {
+            for member in members.iter().take(head.count) {
+                println!(rt; "{member}")?;
+            }
+            Ok(())
+        }
+        Err(refusal) => println!(rt; "{refusal}"),
     }
-    Ok(())
-}
-
-fn print_refusal(rt: &HostRuntime, refusal: Refusal) -> Result<(), Failure> {
-    let number = refusal.number();
-    let place = refusal.place();
-    println!(rt; "refused {number} at {place}")?;
-    Ok(())
 }
