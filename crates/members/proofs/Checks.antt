@@ -1,5 +1,5 @@
 -- A check of numbers that stops at the first that fails. Assumes nothing.
-use Rattle.std.proofs.Common.{◌≡◌, ℕ, ◌<◌, ◌≤◌, Bool, true, false, cond, ltb, get_or, Some, None, Ok, Err, Result, OnOk, IfErr, MatchResult, sym, refl, ap, ◌∙◌, arith}
+use Rattle.std.proofs.Common.{◌≡◌, ℕ, ◌<◌, ◌≤◌, Bool, true, false, cond, ltb, get_or, Ok, Err, Result, OnOk, IfErr, MatchResult, sym, refl, ap, ◌∙◌, arith}
 use Rattle.std.specs.List.{range_with_len}
 use Rattle.std.proofs.lemmas.List.FromFn.{length-range_with_len, get_or-range_with_len}
 use Rattle.std.proofs.lemmas.List.Sums.{prefix_len-le-length, prefix_len_is, prefix_len_passes}
@@ -31,11 +31,6 @@ module _ (good : ℕ → Bool) (n : ℕ) where
   pub none_bad : ltb (first_bad good n) n ≡ false → first_bad good n ≡ n
   unfolding first_bad
   none_bad h = omega (arith, ltb-false _ n h, prefix_len-le-length good (range_with_len 0 n), length-range_with_len 0 n)
-
--- a check that hands on its value or nothing
-pub handed_on : (b : Bool) (x y : ℕ) → Some y ≡ cond b (Some x) None → (b ≡ true) × (y ≡ x)
-handed_on true x y e = (refl, cc)
-handed_on false x y e = let z : ◌≡◌ {A = ℕ} 0 1 = cc in absurd (omega arith)
 
 -- what the check tells, as the definitions say it, where f computes the numbers that are given
 module _ (gives : ℕ → ℕ → Type 0) (good : ℕ → Bool) (f : ℕ → ℕ) (n : ℕ) (computes : (i m : ℕ) → i < n → gives i m → m ≡ f i) where

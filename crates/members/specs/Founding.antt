@@ -1,9 +1,15 @@
 -- What the checks of a head hand on. It serves functions that no other crate can call. Assumes nothing: these are definitions.
-use Rattle.std.specs.Prelude.{Some, None, Ok, Err, Option, Result}
+use Rattle.std.specs.Prelude.{ℕ, List, Some, None, Ok, Err, Option, Result}
+use Rattle.members.specs.declared.entries.Entries.{Entries}
 use Rattle.members.specs.declared.entries.Founding.{Founding}
 use Rattle.members.specs.declared.head.Head.{Head}
 use Rattle.members.specs.declared.refusal.Memory.{Memory}
 use Rattle.members.specs.declared.refusal.Refusal.{Refusal}
+
+-- what a book's entries are: the book, and for how many members
+abbrev pub found : Option Entries → Option (List ℕ × ℕ)
+found (Some e) = Some (e.book.now, e.count)
+found None = None
 
 -- the head that is told of
 abbrev pub outcome : Result Founding Refusal → Result Head Refusal

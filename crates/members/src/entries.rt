@@ -1,11 +1,11 @@
 //! The table and the members in the head of a book, read and checked.
-ghost use Rattle.std.specs.Prelude.{◌≡◌, ℕ, ◌+◌, ◌<◌, ◌≤◌, ◌++◌, true, map, length, drop, OnOk, IfOk, IfErr};
+ghost use Rattle.std.specs.Prelude.{◌≡◌, ℕ, ◌+◌, ◌<◌, ◌≤◌, ◌++◌, true, map, length, drop, nat_lt, if◌then◌else◌, Some, None, OnOk, IfOk, IfErr};
 ghost use Rattle.std.specs.Int.{is_in_range};
 ghost use Rattle.std.specs.List.{range_with_len};
 ghost use Rattle.members.specs.Bytes.{number_in};
 ghost use Rattle.members.specs.Checks.{AllGood, FirstBad};
 ghost use Rattle.members.specs.Heads.{head_length, weight_at, age_at, stake_at, weights_of, table_of, member_at, bad_weight, bad_age, bad_stake, checked, entries_of};
-ghost use Rattle.members.specs.Limits.{most_members, ages, good_age, good_stake};
+ghost use Rattle.members.specs.Limits.{ages, good_age, good_stake};
 ghost use Rattle.members.specs.declared.refusal.Refusal.TheVariants as refusal;
 
 use crate::limits::{
@@ -16,12 +16,12 @@ use crate::refusal::Refusal;
 use crate::table::Table;
 use std::array;
 
-/// A book that is long enough for so many members, which are not too many.
+/// The table and the members in a book that is long enough for so many members.
 #[derive(Clone, Copy)]
 pub(crate) struct Entries<'a> {
     pub(crate) book: &'a [u8],
     pub(crate) count: usize,
-    ghost few: { count ≤ most_members },
+    ghost few: { count < 256 },
     ghost long: { head_length count ≤ length book.now },
 }
 
@@ -36,7 +36,18 @@ pub(crate) struct Founding<'a> {
 }
 
 impl<'a> Entries<'a> {
-    ghost use Rattle.members.specs.Founding.{outcome};
+    ghost use Rattle.members.specs.Founding.{found, outcome};
+
+    /// The entries for so many members, or none where the book ends before.
+    pub(crate) fn of(book: &'a [u8], count: u8) -> Option<Entries<'a>>
+        ensures { found result ≡ (if nat_lt (length book.now) (head_length count) then None else Some (book.now, count)) }
+    {
+        if book.len() < head_length(count) {
+            return None;
+        }
+        let count = usize::from(count);
+        Some(Entries { book, count })
+    }
 
     /// What is founded on the entries, or the first ground on which one of them turns the book away.
     pub(crate) fn checked(&self) -> Result<Founding<'a>, Refusal>
@@ -149,6 +160,13 @@ impl Founding<'_> {
     }
 }
 
+/// How many bytes a head of so many members has.
+pub(crate) fn head_length(count: u8) -> usize
+    ensures { result ≡ head_length count }
+{
+    MEMBERS_AT + MEMBER_SIZE * usize::from(count)
+}
+
 /// Tells of the first of so many numbers that is out of its bounds.
 fn check_each<N: Fn(usize) -> u64>(count: usize, number: N, bounds: Bounds) -> Result<(), usize>
     requires { (i : ℕ) → i < count → N.pre number i }
@@ -156,9 +174,9 @@ fn check_each<N: Fn(usize) -> u64>(count: usize, number: N, bounds: Bounds) -> R
     ensures bad { IfErr result (FirstBad (N.post number) (is_in_range bounds.low bounds.high) count) }
 {
     for i in 0..count {
-        let Some(_) = bounds.bounded(number(i)) else {
+        if !bounds.contain(number(i)) {
             return Err(i);
-        };
+        }
     }
     Ok(())
 }

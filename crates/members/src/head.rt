@@ -1,11 +1,12 @@
 //! The head of a book: how many members, the table of weights, and each member's age and stake.
-ghost use Rattle.std.specs.Prelude.{◌≡◌, ◌<◌, length, IfOk};
-ghost use Rattle.members.specs.Heads.{announced, head_length, after_head, head_of, lacking, answer, seated};
+ghost use Rattle.std.specs.Prelude.{◌≡◌, length, IfOk, if◌then◌else◌, Some, None};
+ghost use Rattle.members.specs.Heads.{announced, after_head, head_of, lacking, answer, seated};
+ghost use Rattle.members.specs.Limits.{good_count};
 ghost use Rattle.members.specs.Founding.{outcome, room_for};
 ghost use Rattle.members.specs.Written.{HeadReadsBack, HeadIsItsBytes, OneBookOneMeaning};
 
-use crate::entries::{Entries, Founding};
-use crate::limits::{MEMBER_SIZE, MEMBERS, MEMBERS_AT};
+use crate::entries::{Entries, Founding, head_length};
+use crate::limits::MEMBERS;
 use crate::line::count_lines;
 use crate::member::Member;
 use crate::refusal::{Memory, Refusal};
@@ -72,15 +73,21 @@ fn check_head(book: &[u8]) -> Result<Founding<'_>, Refusal>
     ensures value { outcome result ≡ head_of book.now }
     ensures book { IfOk result (λ f. f.entries.book.now ≡ book.now) }
 {
-    let count = announced_count(book);
-    let Some(_) = MEMBERS.bounded(u64::from(count)) else {
+    let Some(count) = member_count(book) else {
         return Err(Refusal::Count);
     };
-    let Some(_) = book.split_at_checked(head_length(count)) else {
+    let Some(entries) = Entries::of(book, count) else {
         return Err(Refusal::Table { place: book.len() });
     };
-    let count = usize::from(count);
-    Entries { book, count }.checked()
+    entries.checked()
+}
+
+/// How many members the book founds a society of; none where a society cannot have so many.
+fn member_count(book: &[u8]) -> Option<u8>
+    ensures { result ≡ (if good_count (announced book.now) then Some (announced book.now) else None) }
+{
+    let count = announced_count(book);
+    MEMBERS.contain(u64::from(count)).then_some(count)
 }
 
 /// How many members the first byte announces; none where there is no byte.
@@ -88,11 +95,4 @@ fn announced_count(book: &[u8]) -> u8
     ensures { result ≡ announced book.now }
 {
     book.first().copied().unwrap_or(0)
-}
-
-/// How many bytes a head of so many members has.
-fn head_length(count: u8) -> usize
-    ensures { result ≡ head_length count }
-{
-    MEMBERS_AT + MEMBER_SIZE * usize::from(count)
 }

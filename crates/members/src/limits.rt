@@ -1,5 +1,5 @@
 //! The bounds of a society, where its parts stand in a book, and the check of a bound.
-ghost use Rattle.std.specs.Prelude.{◌≡◌, if◌then◌else◌, Some, None};
+ghost use Rattle.std.specs.Prelude.{◌≡◌};
 ghost use Rattle.std.specs.Int.{is_in_range};
 
 /// The least and the largest number that can stand for something.
@@ -41,10 +41,10 @@ pub(crate) const MEMBERS_AT: usize = TABLE_AT + WEIGHT_SIZE * TABLE_LENGTH;
 pub(crate) const MEMBER_SIZE: usize = 5;
 
 impl Bounds {
-    /// A number that lies within the bounds, or none.
-    pub(crate) fn bounded(self, n: u64) -> Option<u64>
-        ensures { result ≡ (if is_in_range self.low self.high n then Some n else None) }
+    /// Whether a number lies within the bounds.
+    pub(crate) fn contain(self, n: u64) -> bool
+        ensures { result ≡ is_in_range self.low self.high n }
     {
-        (self.low..=self.high).contains(&n).then_some(n)
+        (self.low..=self.high).contains(&n)
     }
 }

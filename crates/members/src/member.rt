@@ -53,9 +53,10 @@ impl Member {
     pub fn new(number: u8, age: u8, weight: u32, stake: u64) -> Option<Member>
         ensures { result ≡ (if good_weight weight && good_stake stake then Some (newcomer number age weight stake) else None) }
     {
-        let weight = WEIGHTS.bounded(u64::from(weight))?;
-        let stake = STAKES.bounded(stake)?;
-        Some(Member::joining(number, age, weight as u32, stake))
+        if !WEIGHTS.contain(u64::from(weight)) || !STAKES.contain(stake) {
+            return None;
+        }
+        Some(Member::joining(number, age, weight, stake))
     }
 
     /// The same where the bounds are known.

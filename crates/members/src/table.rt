@@ -18,8 +18,8 @@ impl Table {
     pub fn weight(&self, age: u8) -> Option<u32>
         ensures { result ≡ (if good_age age then Some (weight_for self.now.weights age) else None) }
     {
-        let age = AGES.bounded(u64::from(age))?;
-        Some(self.weight_of(age))
+        let age = u64::from(age);
+        AGES.contain(age).then(|| self.weight_of(age))
     }
 
     /// The weight at an age that the table has.

@@ -146,11 +146,8 @@ fn order(rt: HostRuntime) -> Result<(), Fail> {
 // The refusal for want of memory, where there is one.
 fn short(book: &[u8], places: usize, cents: usize, lines: usize) -> Option<Memory> {
     let mut members = [Member::nobody(); PLACES];
-    if places > PLACES {
-        return None;
-    }
     let room = Room { cents, lines };
-    match read_head(book, &mut members[0..places], room) {
+    match read_head(book, members.get_mut(..places)?, room) {
         Err(Refusal::Short(memory)) => Some(memory),
         _ => None,
     }

@@ -18,12 +18,11 @@ pub fn share(members: &[Member], dead: usize, word: u32, cents: &mut [u64]) -> R
     ensures others { OnOk result (ToOthers members.now dead cents.new) }
     ensures death { OneDeath }
 {
-    let count = members.len();
-    if cents.len() < count {
-        return Err(Unshared::ShortMemory);
-    }
+    let (places, _) = cents
+        .split_at_mut_checked(members.len())
+        .ok_or(Unshared::ShortMemory)?;
     let estate = Estate::of(members, dead, word)?;
-    deal(members, &estate, &mut cents[..count]);
+    deal(members, &estate, places);
     Ok(())
 }
 

@@ -42,10 +42,8 @@ fn run(rt: &HostRuntime) -> Result<(), Failure> {
 }
 
 fn check_arguments(rt: &(impl Env + AllocGlobal)) -> Result<(), Failure> {
-    let mut arguments = env::args(rt)?;
     // the first is the program's own name
-    let _ = arguments.next();
-    match arguments.next() {
+    match env::args(rt)?.nth(1) {
         Some(unknown) => Err(Failure::UnknownArgument(unknown)),
         None => Ok(()),
     }
