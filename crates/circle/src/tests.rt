@@ -66,7 +66,7 @@ fn seams(rt: HostRuntime) -> Result<(), Fail> {
 // No members make an empty circle, and so do members that are dead.
 #[test]
 fn empty(rt: HostRuntime) -> Result<(), Fail> {
-    for members in [&[], &[Member::nobody(); 3][0..3]] {
+    for members in [&[], &[Member::nobody(); 3][..]] {
         let circle = circle_of(members)?;
         assert_eq!(rt; (circle.size, circle.largest), (0, 0));
         assert_eq!(rt; circle.turned(0), None);

@@ -94,5 +94,5 @@ fn member_count(book: &[u8]) -> Option<u8>
 fn announced_count(book: &[u8]) -> u8
     ensures { result ≡ announced book.now }
 {
-    book.first().copied().unwrap_or(0)
+    book.first().copied().unwrap_or_default()
 }

@@ -28,7 +28,7 @@ pub(crate) const STAKES: Bounds = Bounds {
 pub(crate) const AGES: Bounds = Bounds { low: 40, high: 110 };
 
 /// How many they are.
-pub(crate) const TABLE_LENGTH: usize = 71;
+pub(crate) const TABLE_LENGTH: usize = (AGES.high - AGES.low) as usize + 1;
 
 /// The table stands after the byte that counts the members, four bytes to a weight.
 pub(crate) const TABLE_AT: usize = 1;

@@ -26,9 +26,7 @@ impl fmt::Display for Member {
     ghost output = { λ member. Some (paid_line member) };
 
     fn fmt<W: fmt::Write>(&self, f: &mut fmt::Formatter<W>) -> fmt::Result {
-        let number = self.number;
-        let paid = self.paid;
-        write!(f, "{number} paid {paid}")
+        write!(f, "{} paid {}", self.number, self.paid)
     }
 }
 
@@ -53,10 +51,8 @@ impl Member {
     pub fn new(number: u8, age: u8, weight: u32, stake: u64) -> Option<Member>
         ensures { result ≡ (if good_weight weight && good_stake stake then Some (newcomer number age weight stake) else None) }
     {
-        if !WEIGHTS.contain(u64::from(weight)) || !STAKES.contain(stake) {
-            return None;
-        }
-        Some(Member::joining(number, age, weight, stake))
+        let within = WEIGHTS.contain(u64::from(weight)) && STAKES.contain(stake);
+        within.then(|| Member::joining(number, age, weight, stake))
     }
 
     /// The same where the bounds are known.
