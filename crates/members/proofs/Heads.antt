@@ -4,7 +4,6 @@ use Rattle.std.specs.List.{range_with_len}
 use Rattle.std.proofs.lemmas.Bool.{ltb-false, le-ltb, not-false, not_from_true, cond-false}
 use Rattle.members.specs.Limits.{most_members, ages, good_count}
 use Rattle.members.specs.Heads.{announced, head_length, after_head, table_of, bad_weight, bad_age, bad_stake, entries_of, head_of, lacking, unless_lacking, answer, seated, member_at, members_of}
-use Rattle.members.specs.Founding.{room_for}
 use Rattle.members.specs.Lines.{line_count}
 use Rattle.members.specs.declared.head.Head.{Head}
 use Rattle.members.specs.declared.head.Room.{Room}
@@ -58,11 +57,6 @@ accepts bs counted long weights aged staked =
 enough : {A : Type 0} (b : Bool) (x : A) (r : Option A) → cond b (Some x) r ≡ None → (b ≡ false) × (r ≡ None)
 enough true x r h = let z : ◌≡◌ {A = ℕ} 0 1 = cc in absurd (omega arith)
 enough false x r h = (refl, h)
-
--- where the memory was found to be enough, none is too short
-pub none_lacking : (o : Option Memory) → Ok tt ≡ room_for o → o ≡ None
-none_lacking None e = refl
-none_lacking (Some m) e = let z : ◌≡◌ {A = ℕ} 0 1 = cc in absurd (omega arith)
 
 module _ (places : ℕ) (room : Room) (bs : List ℕ) (full : lacking places room bs ≡ None) where
   pub roomy : announced bs ≤ places

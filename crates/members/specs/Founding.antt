@@ -3,20 +3,14 @@ use Rattle.std.specs.Prelude.{ℕ, List, Some, None, Ok, Err, Option, Result}
 use Rattle.members.specs.declared.entries.Entries.{Entries}
 use Rattle.members.specs.declared.entries.Founding.{Founding}
 use Rattle.members.specs.declared.head.Head.{Head}
-use Rattle.members.specs.declared.refusal.Memory.{Memory}
 use Rattle.members.specs.declared.refusal.Refusal.{Refusal}
 
--- what a book's entries are: the book, and for how many members
+-- entries as values: the bytes of the book, and for how many members they are
 abbrev pub found : Option Entries → Option (List ℕ × ℕ)
 found (Some e) = Some (e.book.now, e.count)
 found None = None
 
--- the head that is told of
+-- a head in place of all that it was founded on; a refusal stays one
 abbrev pub outcome : Result Founding Refusal → Result Head Refusal
 outcome (Ok f) = Ok (record { count = f.entries.count; table = f.table })
 outcome (Err e) = Err e
-
--- whether no memory is too short
-abbrev pub room_for : Option Memory → Result (Unit {0}) Memory
-room_for None = Ok tt
-room_for (Some m) = Err m

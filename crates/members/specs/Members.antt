@@ -21,6 +21,6 @@ newcomer number age weight stake = record {
 abbrev pub nobody : Member
 nobody = record { number = 0; age = 0; weight = 1; stake = 1; paid = 0; alive = false; weighs = (omega arith, omega arith); staked = (omega arith, omega arith) }
 
--- what a member was paid, as it is told at the end
+-- how it is told, as bytes, what a member was paid
 abbrev pub paid_line : Member → List ℕ
 paid_line m = decimal m.number ++ codes " paid " ++ decimal m.paid

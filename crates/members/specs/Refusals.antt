@@ -27,10 +27,10 @@ place_of (Age member) = member
 place_of (Stake member) = member
 place_of (Short memory) = memory_place memory
 
+-- how a refusal is told, as bytes
+abbrev pub told_as : Refusal → List ℕ
+told_as r = codes "refused " ++ decimal (number_of r) ++ codes " at " ++ decimal (place_of r)
+
 -- number and place tell refusals apart
 abbrev pub ToldApart : Type 0
 ToldApart = (a b : Refusal) → number_of a ≡ number_of b → place_of a ≡ place_of b → a ≡ b
-
--- how a refusal is told
-abbrev pub told_as : Refusal → List ℕ
-told_as r = codes "refused " ++ decimal (number_of r) ++ codes " at " ++ decimal (place_of r)

@@ -1,8 +1,9 @@
 //! The head of a book: how many members, the table of weights, and each member's age and stake.
 ghost use Rattle.std.specs.Prelude.{◌≡◌, length, IfOk, if◌then◌else◌, Some, None};
+ghost use Rattle.std.specs.Result.{result_err};
 ghost use Rattle.members.specs.Heads.{announced, after_head, head_of, lacking, answer, seated};
 ghost use Rattle.members.specs.Limits.{good_count};
-ghost use Rattle.members.specs.Founding.{outcome, room_for};
+ghost use Rattle.members.specs.Founding.{outcome};
 ghost use Rattle.members.specs.Written.{HeadReadsBack, HeadIsItsBytes, OneBookOneMeaning};
 
 use crate::entries::{Entries, Founding, head_length};
@@ -45,7 +46,7 @@ pub fn read_head(book: &[u8], members: &mut [Member], room: Room) -> Result<Head
 
 /// Whether enough memory is lent for the book; else the first that is too short.
 fn check_memory(book: &[u8], places: usize, room: Room) -> Result<(), Memory>
-    ensures { result ≡ room_for (lacking places room book.now) }
+    ensures { result_err result ≡ lacking places room book.now }
 {
     let count = usize::from(announced_count(book));
     if places < count {

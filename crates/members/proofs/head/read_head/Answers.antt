@@ -2,13 +2,13 @@ use Rattle.std.proofs.Common.{◌≡◌, ◌++◌, None, length, map, drop, sym,
 use Rattle.std.specs.List.{range_with_len}
 use Rattle.members.specs.Heads.{lacking, member_at}
 use Rattle.members.proofs.Founded.{head_reads_back, head_is_its_bytes, one_book_one_meaning}
-use Rattle.members.proofs.Heads.{none_lacking, answered, taken}
+use Rattle.members.proofs.Heads.{answered, taken}
 use Rattle.members.proofs.head.read_head.Goals as goal
 use Rattle.members.proofs.head.read_head.Goals.{In_ok-founding}
 
 -- enough memory was lent
 full : (c : In_ok-founding) → lacking (length c.args.members.now) c.args.room c.args.book.now ≡ None
-full c = none_lacking _ c.in_ok-check_memory.ensures
+full c = sym c.in_ok-check_memory.ensures
 
 pub returns : goal.returns
 returns c =
