@@ -207,6 +207,20 @@ fn makes_members(rt: HostRuntime) -> Result<(), Fail> {
     Ok(())
 }
 
+// What is written of a refusal and of a member: a contract does not say that a write succeeds.
+#[test]
+fn written(rt: HostRuntime) -> Result<(), Fail> {
+    let heap = rt.alloc();
+    let age = Refusal::Age { member: 2 };
+    assert!(rt; format!(in heap; "{age}")?.as_str() == "refused 3 at 2");
+    let lines = Refusal::from(Memory::Lines);
+    assert!(rt; format!(in heap; "{lines}")?.as_str() == "refused 10 at 2");
+    let mut member = Member::new(63, 50, 1, 1).ok_or("out of bounds")?;
+    member.paid = 6_400_000_000;
+    assert!(rt; format!(in heap; "{member}")?.as_str() == "63 paid 6400000000");
+    Ok(())
+}
+
 // Each kind of line, and the part after it.
 #[test]
 fn lines(rt: HostRuntime) -> Result<(), Fail> {
