@@ -5,7 +5,7 @@ ghost use Rattle.std.specs.List.{range_with_len};
 ghost use Rattle.members.specs.Bytes.{number_in};
 ghost use Rattle.members.specs.Checks.{AllGood, FirstBad};
 ghost use Rattle.members.specs.Heads.{head_length, weight_at, age_at, stake_at, weights_of, table_of, member_at, bad_weight, bad_age, bad_stake, checked, entries_of};
-ghost use Rattle.members.specs.Limits.{ages, good_age, good_stake};
+ghost use Rattle.members.specs.Limits.{ages, good_weight, good_age, good_stake};
 ghost use Rattle.members.specs.declared.refusal.Refusal.TheVariants as refusal;
 
 use crate::limits::{
@@ -31,6 +31,7 @@ pub(crate) struct Founding<'a> {
     pub(crate) entries: Entries<'a>,
     pub(crate) table: Table,
     ghost weights: { table.weights ≡ weights_of entries.book.now },
+    ghost weighed: { (i : ℕ) → i < ages → good_weight (weight_at entries.book.now i) ≡ true },
     ghost aged: { (i : ℕ) → i < entries.count → good_age (age_at entries.book.now i) ≡ true },
     ghost staked: { (i : ℕ) → i < entries.count → good_stake (stake_at entries.book.now i) ≡ true },
 }

@@ -21,16 +21,18 @@ pub enum Line {
 pub fn read_line(part: &[u8]) -> Option<(Line, &[u8])>
     ensures { handed result ≡ line_at part.now }
 {
-    match part {
-        [DEATH, member, a, b, c, d, rest @ ..] => {
+    // Read before the match: patterns on the whole part test first whether it is as long as a death, which costs every other line.
+    let (kind, rest) = part.split_first()?;
+    match (*kind, rest) {
+        (DEATH, [member, a, b, c, d, rest @ ..]) => {
             let death = Line::Death {
                 member: *member,
                 word: u32::from_le_bytes([*a, *b, *c, *d]),
             };
             Some((death, rest))
         }
-        [NEW_YEAR, rest @ ..] => Some((Line::NewYear, rest)),
-        [WOUND_UP, rest @ ..] => Some((Line::WoundUp, rest)),
+        (NEW_YEAR, rest) => Some((Line::NewYear, rest)),
+        (WOUND_UP, rest) => Some((Line::WoundUp, rest)),
         _ => None,
     }
 }

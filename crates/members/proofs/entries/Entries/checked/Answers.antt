@@ -22,4 +22,4 @@ table-requires c = weights (goal.at.table-requires c).In_ok-check_stakes
 pub invariant_of-result : goal.invariant_of-result
 invariant_of-result c =
     let d = (goal.at.invariant_of-result c).In_ok-check_stakes in
-    record { weights = ap (λ t. t.weights) c.table.ensures; aged = passes _ _ (aged d); staked = passes _ _ (staked d) }
+    record { weights = ap (λ t. t.weights) c.table.ensures; weighed = passes _ _ (weights d); aged = passes _ _ (aged d); staked = passes _ _ (staked d) }
