@@ -21,7 +21,7 @@ pub enum Line {
 pub fn read_line(part: &[u8]) -> Option<(Line, &[u8])>
     ensures { handed result ≡ line_at part.now }
 {
-    // Read before the match: patterns on the whole part test first whether it is as long as a death, which costs every other line.
+    // Read before the match: patterns on the whole part would first test of every line whether the part is as long as a death.
     let (kind, rest) = part.split_first()?;
     match (*kind, rest) {
         (DEATH, [member, a, b, c, d, rest @ ..]) => {
